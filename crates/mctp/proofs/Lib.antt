@@ -1,0 +1,4 @@
+-- The laws that other crates cite.
+pub mod Wire
+pub mod RoundTrip
+pub mod Keys

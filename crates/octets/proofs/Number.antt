@@ -1,0 +1,116 @@
+-- Laws of `le` and `num`: each undoes the other, and two numbers side by side are one of twice the width.
+use Prim.Native.Nat.{ℕ, zero, suc, _+_, _*_, _/_, _%_, _≤_, _<_}
+use native.Mathlib.Nat.{add-comm, mul-comm, mul-add, mul-assoc, mod-lt, div-add-mod}
+use native.Mathlib.Omega.{arith}
+use mathlib.Core.Path.{_≡_, refl, sym, ap, _∙_}
+use mathlib.Core.List.{List, [], _∷_, _++_}
+use lib.ListN.{length, getD, length-append}
+use mir.Syntax.{w8}
+use mir.Val.{Fits}
+use Rattle.octets.specs.Bytes.{le, num, part, over, pack, puts}
+use Rattle.octets.proofs.Part.{part-add, length-part, over-over, over-nil, over-whole, length-over}
+
+pub length-le : (w x : ℕ) → length (le w x) ≡ w
+unfolding le
+length-le zero x = refl
+length-le (suc w) x = ap suc (length-le w (x / 256))
+
+-- 256 to the w, by its digits
+unfoldable pub top : ℕ → ℕ
+top zero = 1
+top (suc w) = 256 * top w
+
+top-pos : (w : ℕ) → 0 < top w
+unfolding top
+top-pos zero = omega arith
+top-pos (suc w) = let h = top-pos w in omega arith
+
+pub num-le : (w x : ℕ) → x < top w → num (le w x) ≡ x
+unfolding le num top
+num-le zero x h = omega arith
+num-le (suc w) x h = let i : num (le w (x / 256)) ≡ x / 256 = num-le w (x / 256) (omega arith) in omega arith
+
+-- each below 256
+unfoldable pub Bytes : List ℕ → Type 0
+Bytes [] = Unit
+Bytes (b ∷ l) = (b < 256) × Bytes l
+
+pub bytes-le : (w x : ℕ) → Bytes (le w x)
+unfolding le Bytes
+bytes-le zero x = tt
+bytes-le (suc w) x = (omega arith, bytes-le w (x / 256))
+
+pub bytes-append : (s t : List ℕ) → Bytes s → Bytes t → Bytes (s ++ t)
+unfolding Bytes
+bytes-append [] t p q = q
+bytes-append (x ∷ s) t p q = (p .0, bytes-append s t (p .1) q)
+
+-- what a slice of bytes says of its elements
+pub bytes-slice : (s : List ℕ) → ((i : ℕ) → Fits w8 (getD s i 0)) → Bytes s
+unfolding Bytes
+bytes-slice [] h = tt
+bytes-slice (x ∷ s) h = (h 0 .fits, bytes-slice s (λ i. h (suc i)))
+
+pub bytes-part : (at n : ℕ) (s : List ℕ) → Bytes s → Bytes (part at n s)
+unfolding Bytes part
+bytes-part zero zero s p = tt
+bytes-part zero (suc n) [] p = tt
+bytes-part zero (suc n) (x ∷ s) p = (p .0, bytes-part zero n s (p .1))
+bytes-part (suc at) zero s p = tt
+bytes-part (suc at) (suc n) [] p = tt
+bytes-part (suc at) (suc n) (x ∷ s) p = bytes-part at (suc n) s (p .1)
+
+pub le-num : (s : List ℕ) → Bytes s → le (length s) (num s) ≡ s
+unfolding le num Bytes
+le-num [] p = refl
+le-num (x ∷ s) p =
+    let b : x < 256 = p .0 in
+    let m : (x + 256 * num s) % 256 ≡ x = omega arith in
+    let d : (x + 256 * num s) / 256 ≡ num s = omega arith in
+    rw (m, d, le-num s (p .1))
+
+pub num-append : (s t : List ℕ) → num (s ++ t) ≡ num s + top (length s) * num t
+unfolding num top
+num-append [] t = omega arith
+num-append (x ∷ s) t = rw (num-append s t, mul-add 256 (num s) (top (length s) * num t), ← mul-assoc 256 (top (length s)) (num t)) (omega arith)
+
+-- a number from its low and its high part
+pub le-pair : (n m a b : ℕ) → a < top n → b < top m → le n a ++ le m b ≡ le (n + m) (a + top n * b)
+le-pair n m a b p q =
+    let s = le n a ++ le m b in
+    let e : num s ≡ a + top n * b = rw (num-append (le n a) (le m b), length-le n a, num-le n a p, num-le m b q) in
+    let l : length s ≡ n + m = rw (length-append, length-le n a, length-le m b) in
+    sym (rw (l, e) at (le-num s (bytes-append (le n a) (le m b) (bytes-le n a) (bytes-le m b))))
+
+-- what two neighbours say together
+pub field-pair : (at m n : ℕ) (b : List ℕ) → at + m ≤ length b → num (part at (m + n) b) ≡ num (part at m b) + top m * num (part (at + m) n b)
+field-pair at m n b h = rw (part-add at m n b, num-append (part at m b) (part (at + m) n b), length-part at m b h)
+
+pub get-pair : (at n k : ℕ) (b : List ℕ) {x y r : ℕ} → x ≡ num (part at n b) → y ≡ num (part (at + n) n b) → n + n ≡ k → at + k ≤ length b → r ≡ x + y * top n → r ≡ num (part at k b)
+get-pair at n k b u v w h z = z ∙ rw (u, v, ← w, field-pair at n n b (omega arith), mul-comm (top n) (num (part (at + n) n b)))
+
+-- the bytes of what the bytes say
+pub le-field : (at w : ℕ) (s : List ℕ) → at + w ≤ length s → Bytes s → le w (num (part at w s)) ≡ part at w s
+le-field at w s h p = rw (length-part at w s h) at (le-num (part at w s) (bytes-part at w s p))
+
+-- two stores side by side, of a number's low and high half
+pub put-pair : (at n k x : ℕ) (b : List ℕ) {e f : List ℕ} → e ≡ over at (le n (x % top n)) b → f ≡ over (at + n) (le n (x / top n)) e → n + n ≡ k → at + k ≤ length b → x / top n < top n → f ≡ over at (le k x) b
+put-pair at n k x b u v w h q =
+    let l = length-le n (x % top n) in
+    let j = length-le n (x / top n) in
+    let z : x % top n + top n * (x / top n) ≡ x = add-comm (x % top n) (top n * (x / top n)) ∙ div-add-mod x (top n) in
+    v ∙ rw (u, over-over at (at + n) (le n (x % top n)) (le n (x / top n)) b (omega arith) (omega arith), le-pair n n (x % top n) (x / top n) (mod-lt x (top-pos n)) q, z, w)
+
+-- the stores of a row of fields, one after the other, are one store of their bytes
+pub puts-pack : (at : ℕ) (fs : List (ℕ × ℕ)) (b : List ℕ) → at + length (pack fs) ≤ length b → puts at fs b ≡ over at (pack fs) b
+unfolding puts pack
+puts-pack at [] b h = sym (over-nil at b)
+puts-pack at (f ∷ fs) b h =
+    let w = length-le (f .0) (f .1) in
+    let l : length (le (f .0) (f .1) ++ pack fs) ≡ f .0 + length (pack fs) = rw (length-append, w) in
+    let o = length-over at (le (f .0) (f .1)) b (omega arith) in
+    rw (puts-pack (at + f .0) fs (over at (le (f .0) (f .1)) b) (omega arith), over-over at (at + f .0) (le (f .0) (f .1)) (pack fs) b (omega arith) (omega arith))
+
+-- the same at the whole of a block
+pub puts-whole : (fs : List (ℕ × ℕ)) (b : List ℕ) → length (pack fs) ≡ length b → puts 0 fs b ≡ pack fs
+puts-whole fs b e = puts-pack 0 fs b (omega arith) ∙ over-whole (length b) (pack fs) b e refl

@@ -1,0 +1,48 @@
+-- Document 01, "Event stamp": a clock and a 32-bit counter, ordered by clock and then counter.
+-- Leans on `pick` alone.
+use Prim.Native.Nat.{ℕ, _+_, _-_, min}
+use mathlib.Core.Bool.{Bool, true, false}
+use lib.Dec.{ltb, eqb}
+use Rattle.octets.specs.Pick.{pick}
+use Rattle.stamp.specs.declared.EventStamp.{EventStamp}
+use Rattle.stamp.specs.declared.Timeout.{Timeout}
+use Rattle.stamp.specs.declared.Timeout.the-variants.{Untimed, Expired, Left}
+
+-- the counter's largest value
+abbrev pub lastCount : ℕ
+lastCount = 4294967295
+
+-- each event adds 1 first; at its largest value the counter stays
+unfoldable pub next : EventStamp → EventStamp
+next s = pick (ltb (s .counter) lastCount) (record { clock = s .clock; counter = s .counter + 1 }) s
+
+-- a later clock sets the counter to 0, an equal one keeps it; an earlier one is refused before
+unfoldable pub clocked : ℕ → EventStamp → EventStamp
+clocked t s = pick (ltb (s .clock) t) (record { clock = t; counter = 0 }) s
+
+-- a is before b: by clock and then counter
+unfoldable pub earlier : EventStamp → EventStamp → Bool
+earlier a b = pick (ltb (a .clock) (b .clock)) true (pick (ltb (b .clock) (a .clock)) false (ltb (a .counter) (b .counter)))
+
+-- now less stamp
+abbrev pub age : EventStamp → ℕ → ℕ
+age s now = now - s .clock
+
+-- age exceeds the timeout, or the stamp is later than now
+unfoldable pub expired : EventStamp → ℕ → ℕ → Bool
+expired s now timeout = pick (ltb now (s .clock)) true (ltb timeout (age s now))
+
+-- expired, or the timeout less age
+unfoldable pub timeoutOf : EventStamp → ℕ → ℕ → Timeout
+timeoutOf s now timeout = pick (expired s now timeout) Expired (Left (timeout - age s now))
+
+abbrev pub isExpired : Timeout → Bool
+isExpired Untimed = false
+isExpired Expired = true
+isExpired (Left n) = false
+
+-- the least of a time and what is left: what is untimed or expired has no remaining time
+abbrev pub soonerOf : Timeout → ℕ → ℕ
+soonerOf Untimed least = least
+soonerOf Expired least = least
+soonerOf (Left n) least = min n least
