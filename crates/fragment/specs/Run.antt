@@ -1,0 +1,31 @@
+-- A run of steps, the payload lent at every step, with packet buffers of any sizes: what it writes, and the fragmenter after it.
+-- Leans on specs/Step.antt.
+use Prim.Native.Nat.{ℕ, _+_, _-_, _/_}
+use mathlib.Core.Bool.{Bool}
+use mathlib.Core.List.{List, [], _∷_, _++_}
+use lib.Dec.{leb}
+use Rattle.octets.specs.Pick.{pick}
+use Rattle.mctp.specs.declared.Error.{Error}
+use Rattle.fragment.specs.declared.Fragmenter.{Fragmenter}
+use Rattle.fragment.specs.declared.SendOutput.{SendOutput}
+use Rattle.fragment.specs.declared.SendOutput.the-variants.{Packet, Complete, Error as Failed}
+use Rattle.fragment.specs.Step.{Step, stepOf}
+
+-- a step that answers with a packet wrote its bytes; any other wrote none
+abbrev pub wrote : SendOutput → List ℕ → List (List ℕ)
+wrote (Packet n) bytes = bytes ∷ []
+wrote (Complete tag cookie) bytes = []
+wrote (Failed err cookie) bytes = []
+
+unfoldable pub written : Fragmenter → List ℕ → List ℕ → List (List ℕ)
+written f payload [] = []
+written f payload (n ∷ ns) =
+    wrote (stepOf f payload n .result .output) (stepOf f payload n .bytes) ++ written (stepOf f payload n .result .next) payload ns
+
+unfoldable pub after : Fragmenter → List ℕ → List ℕ → Fragmenter
+after f payload [] = f
+after f payload (n ∷ ns) = after (stepOf f payload n .result .next) payload ns
+
+-- how many packets a payload of that size takes with buffers of at least the MTU: one, and one more for each mtu - 4 bytes past mtu - 5
+unfoldable pub packetCount : ℕ → ℕ → ℕ
+packetCount mtu size = pick (leb size (mtu - 5)) 1 (1 + (size - (mtu - 5) + (mtu - 5)) / (mtu - 4))

@@ -1,0 +1,118 @@
+-- Document 01, "Fragmenter": one step, in its order, and the bytes that it writes.
+-- Leans on `mctp` for the header's bytes. A later step with room 4 emits a header alone: `emitted` says so in one place, by asking nothing of the room.
+use Prim.Native.Nat.{ℕ, _+_, _-_, _*_, _%_, _≤_, _<_, min}
+use mathlib.Core.Bool.{Bool, true, false}
+use mathlib.Core.List.{List, [], _∷_, _++_}
+use lib.Dec.{ltb, leb, eqb}
+use lib.ListN.{length}
+use Rattle.octets.specs.Pick.{pick}
+use Rattle.octets.specs.Bytes.{part}
+use Rattle.mctp.specs.declared.Eid.{Eid}
+use Rattle.mctp.specs.declared.MsgType.{MsgType}
+use Rattle.mctp.specs.declared.MsgIC.{MsgIC}
+use Rattle.mctp.specs.declared.Tag.{Tag}
+use Rattle.mctp.specs.declared.Cookie.{Cookie}
+use Rattle.mctp.specs.declared.Header.{Header}
+use Rattle.mctp.specs.declared.Error.{Error}
+use Rattle.mctp.specs.declared.Error.the-variants.{InvalidInput, NoSpace, BadArgument}
+use Rattle.mctp.specs.Terms.{tagOf, keyUnder}
+use Rattle.mctp.specs.Header.{headerBytes, lead, typeByte, intro}
+use Rattle.fragment.specs.declared.Fragmenter.{Fragmenter}
+use Rattle.fragment.specs.declared.SendOutput.{SendOutput}
+use Rattle.fragment.specs.declared.SendOutput.the-variants.{Packet, Complete, Error as Failed}
+use Rattle.fragment.specs.declared.Fragmented.{Fragmented}
+use Rattle.fragment.specs.declared.Started.{Started}
+use Rattle.fragment.specs.declared.Started.the-variants.{Sends, Refused}
+
+-- a fragmenter that has sent nothing
+abbrev pub fresh : MsgType → Eid → Eid → Tag → ℕ → Cookie → MsgIC → ℕ → Fragmenter
+fresh typ src dest tag mtu cookie ic seq = record {
+  src = src;
+  dest = dest;
+  typ = typ;
+  tag = tag;
+  ic = ic;
+  seq = seq % 4;
+  mtu = mtu;
+  first = true;
+  done = false;
+  cookie = cookie;
+  «payload_used» = 0;
+}
+
+-- a tag above 7 or a type above 127 is InvalidInput; an MTU outside 5 to 255 is BadArgument
+unfoldable pub newOf : MsgType → Eid → Eid → Tag → ℕ → Cookie → MsgIC → ℕ → Started
+newOf typ src dest tag mtu cookie ic seq =
+    pick (ltb 7 (tagOf tag .0)) (Refused InvalidInput)
+    (pick (ltb 127 (typ .0)) (Refused InvalidInput)
+    (pick (ltb mtu 5) (Refused BadArgument)
+    (pick (ltb 255 mtu) (Refused BadArgument) (Sends (fresh typ src dest tag mtu cookie ic seq)))))
+
+-- total room: the smaller of buffer and MTU
+abbrev pub roomOf : Fragmenter → ℕ → ℕ
+roomOf f n = min n (f .mtu)
+
+-- the body bytes that go out: as much of what is left as fits
+abbrev pub fitting : Fragmenter → ℕ → ℕ → ℕ
+fitting f size n = min (size - f .«payload_used») (roomOf f n - lead (f .first))
+
+-- EOM exactly when all payload is used
+abbrev pub ends : Fragmenter → ℕ → ℕ → Bool
+ends f size n = eqb (f .«payload_used» + fitting f size n) size
+
+abbrev pub headOf : Fragmenter → Bool → Header
+headOf f eom = record { key = keyUnder (f .src) (f .dest) (f .tag); som = f .first; eom = eom; seq = f .seq }
+
+-- the packet: header, with the first the type byte, and the body
+abbrev pub packetOf : Fragmenter → List ℕ → ℕ → List ℕ
+packetOf f payload n =
+    headerBytes (headOf f (ends f (length payload) n))
+    ++ intro (f .first) (typeByte (f .typ) (f .ic)) (part (f .«payload_used») (fitting f (length payload) n) payload)
+
+-- after a packet that took n body bytes: sequence up by 1 modulo 4, first no more, done exactly with EOM
+abbrev pub advancedBy : Fragmenter → ℕ → Bool → Fragmenter
+advancedBy f n eom = record {
+  src = f .src;
+  dest = f .dest;
+  typ = f .typ;
+  tag = f .tag;
+  ic = f .ic;
+  seq = (f .seq % 4 + 1) % 4;
+  mtu = f .mtu;
+  first = false;
+  done = eom;
+  cookie = f .cookie;
+  «payload_used» = f .«payload_used» + n;
+}
+
+abbrev pub nextOf : Fragmenter → ℕ → ℕ → Fragmenter
+nextOf f size n = advancedBy f (fitting f size n) (ends f size n)
+
+-- what a step makes: the next fragmenter and the answer, and the bytes over the front of the packet buffer
+pub record Step : Type 0 where
+  pub result : Fragmented
+  pub bytes : List ℕ
+
+abbrev pub refused : Fragmenter → Error → Step
+refused f e = record { result = record { next = f; output = Failed e (f .cookie) }; bytes = [] }
+
+abbrev pub emitted : Fragmenter → List ℕ → ℕ → Step
+emitted f payload n = record {
+  result = record { next = nextOf f (length payload) n; output = Packet (lead (f .first) + fitting f (length payload) n) };
+  bytes = packetOf f payload n;
+}
+
+-- 1. done: Complete with tag and cookie; 2. buffer under 5 (first) or 4 (later): NoSpace; 3. payload shorter than what was used: InvalidInput; 4. else a packet
+unfoldable pub stepOf : Fragmenter → List ℕ → ℕ → Step
+stepOf f payload n =
+    pick (f .done) (record { result = record { next = f; output = Complete (f .tag) (f .cookie) }; bytes = [] })
+    (pick (ltb n (lead (f .first))) (refused f NoSpace)
+    (pick (ltb (length payload) (f .«payload_used»)) (refused f InvalidInput) (emitted f payload n)))
+
+-- what a fragmenter is that `new` gave and steps changed
+pub record Sound (f : Fragmenter) : Type 0 where
+  pub seq : f .seq < 4
+  pub tag : tagOf (f .tag) .0 < 8
+  pub typ : f .typ .0 < 128
+  pub least : 5 ≤ f .mtu
+  pub most : f .mtu ≤ 255
