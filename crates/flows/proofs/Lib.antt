@@ -1,0 +1,6 @@
+pub mod Finds
+pub mod Bits
+pub mod TagLaws
+pub mod TableLaws
+pub mod CodecLaws
+pub mod Figures

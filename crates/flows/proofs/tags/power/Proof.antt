@@ -1,0 +1,20 @@
+-- 1 shifted by t below 8 is 2 to the t: nothing is shifted out of a byte.
+use Prim.Native.Nat.{_^_}
+use native.Mathlib.Nat.{one-mul}
+use native.Mathlib.Omega.{arith}
+use mathlib.Core.Path.{_∙_}
+use lib.Pow.{shl-exact, pow-pos}
+use borrow.Author.Needs.{needs}
+use Rattle.flows.proofs.tags.power.Statement.{statement}
+use Rattle.flows.proofs.tags.power.Tie as tie
+
+shl-result : tie.Need-shl-result
+shl-result c = search needs
+
+returns : tie.Need-returns
+returns c =
+    let e = shl-exact {a = 1} 1 (c .args .t) 8 (omega arith) (omega arith) ∙ one-mul (2 ^ c .args .t) in
+    (e, rw e (pow-pos (c .args .t)))
+
+pub power-spec : {M : Type 1} → statement M
+power-spec = tie.close (tie.spec shl-result returns)

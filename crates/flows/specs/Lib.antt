@@ -1,0 +1,3 @@
+pub mod Tags
+pub mod Table
+pub mod Codec
