@@ -1,0 +1,97 @@
+-- Worked figures for one slot: what the definitions give for packets whole, too long and too short, and for a slot's time.
+-- Each holds by computation.
+use Prim.Native.Nat.{ℕ}
+use mathlib.Core.Path.{_≡_, refl}
+use mathlib.Core.Bool.{true, false}
+use mathlib.Core.List.{List, [], _∷_}
+use lib.ListN.{replicate}
+use Rattle.octets.specs.Pick.{pick}
+use Rattle.mctp.specs.declared.Cookie.the-variants.{Absent}
+use Rattle.mctp.specs.declared.Error.the-variants.{InvalidInput, NoSpace}
+use Rattle.mctp.specs.declared.HeaderRead.{HeaderRead}
+use Rattle.mctp.specs.declared.HeaderRead.the-variants.{Good, Bad}
+use Rattle.mctp.specs.Header.{headerOf}
+use Rattle.stamp.specs.declared.EventStamp.{EventStamp}
+use Rattle.stamp.specs.declared.Timeout.the-variants.{Untimed, Expired, Left}
+use Rattle.stamp.specs.Stamp.{timeoutOf, expired}
+use Rattle.reassemble.specs.declared.State.{State}
+use Rattle.reassemble.specs.declared.State.the-variants.{Collecting, Done, HandleOut}
+use Rattle.reassemble.specs.declared.Reassembler.{Reassembler}
+use Rattle.reassemble.specs.declared.Outcome.the-variants.{Whole, Freed}
+use Rattle.reassemble.specs.declared.Entry.{Entry}
+use Rattle.reassemble.specs.Slot.{blankSlot, restated, slotTimeout}
+use Rattle.reassemble.specs.Enter.{enter, append, opened, freed}
+
+-- the event's stamp
+abbrev at100 : EventStamp
+at100 = record { clock = 100; counter = 1 }
+
+-- a packet comes to the slot that its header opens; a handle that goes out has number 7
+abbrev enteredBy : HeaderRead → List ℕ → Entry
+enteredBy (Good h) p = enter 1032 at100 7 (opened h Absent) h p
+enteredBy Bad p = freed InvalidInput p
+
+abbrev entered : List ℕ → Entry
+entered p = enteredBy (headerOf p) p
+
+abbrev one : List ℕ
+one = 0x01 ∷ 0x08 ∷ 0x09 ∷ 0xC9 ∷ 0x01 ∷ 0x2A ∷ []
+
+-- from 9 to 8 under tag 1, type 1, no IC: one byte, the packet's last, goes to the body's start
+one-whole : entered one ≡ record {
+  slot = record {
+    state = HandleOut 7;
+    key = record { source = record { 0 = 9 }; dest = record { 0 = 8 }; owner = true; tag = record { 0 = 1 } };
+    typ = record { 0 = 1 };
+    ic = record { 0 = false };
+    «next_seq» = 1;
+    len = 1;
+    cookie = Absent;
+    stamp = at100;
+  };
+  at = 0;
+  from = 5;
+  outcome = Whole;
+}
+unfolding pick headerOf enter append
+one-whole = refl
+
+-- SOM and EOM, with a body of n bytes
+abbrev body : ℕ → List ℕ
+body n = 0x01 ∷ 0x08 ∷ 0x09 ∷ 0xC8 ∷ 0x01 ∷ replicate n 7
+
+body-1032 : entered (body 1032) .outcome ≡ Whole
+unfolding pick headerOf enter append
+body-1032 = refl
+
+body-1032-len : entered (body 1032) .slot .len ≡ 1032
+unfolding pick headerOf enter append
+body-1032-len = refl
+
+body-1033 : entered (body 1033) ≡ record { slot = blankSlot; at = 0; from = 1038; outcome = Freed NoSpace }
+unfolding pick headerOf enter append
+body-1033 = refl
+
+-- SOM with 4 bytes only
+short-som : entered (0x01 ∷ 0x08 ∷ 0x09 ∷ 0xC8 ∷ []) ≡ record { slot = blankSlot; at = 0; from = 4; outcome = Freed InvalidInput }
+unfolding pick headerOf enter append
+short-som = refl
+
+-- a slot stamped at 100
+abbrev stamped : State → Reassembler
+stamped state = restated state (entered one .slot)
+
+last-moment : slotTimeout 6100 (stamped Collecting) ≡ Left 0
+unfolding pick headerOf enter append timeoutOf expired
+last-moment = refl
+
+too-late : slotTimeout 6101 (stamped Collecting) ≡ Expired
+unfolding pick headerOf enter append timeoutOf expired
+too-late = refl
+
+done-too-late : slotTimeout 6101 (stamped Done) ≡ Expired
+unfolding pick headerOf enter append timeoutOf expired
+done-too-late = refl
+
+handle-out : slotTimeout 6101 (stamped (HandleOut 7)) ≡ Untimed
+handle-out = refl

@@ -1,0 +1,4 @@
+pub mod Finds
+pub mod Order
+pub mod Searches
+pub mod Figures

@@ -1,0 +1,117 @@
+-- Document 01, "Reassembler", steps 2 to 6: what a packet makes of one slot. B is the most that a body holds; `now` is the event's stamp; `issue` is the
+-- number of a handle that goes out. The plan says which bytes of the packet go where in the slot's body; a refusal moves none and frees the slot.
+-- Leans on `mctp` for the header and the refusals.
+use Prim.Native.Nat.{ℕ, _+_, _-_, _%_, _≤_}
+use mathlib.Core.Bool.{Bool, true, false}
+use mathlib.Core.List.{List}
+use lib.Dec.{ltb, eqb}
+use lib.ListN.{length, getD}
+use Rattle.octets.specs.Pick.{pick}
+use Rattle.mctp.specs.declared.Eid.{Eid}
+use Rattle.mctp.specs.declared.Cookie.{Cookie}
+use Rattle.mctp.specs.declared.Cookie.the-variants.{Absent}
+use Rattle.mctp.specs.declared.Header.{Header}
+use Rattle.mctp.specs.declared.HeaderRead.{HeaderRead}
+use Rattle.mctp.specs.declared.HeaderRead.the-variants.{Good, Bad}
+use Rattle.mctp.specs.declared.Error.{Error}
+use Rattle.mctp.specs.declared.Error.the-variants.{InvalidInput, NoSpace, Unreachable}
+use Rattle.mctp.specs.Terms.{sameEid, nullEid, anyEid}
+use Rattle.mctp.specs.Header.{headerOf, typeOf}
+use Rattle.stamp.specs.declared.EventStamp.{EventStamp}
+use Rattle.reassemble.specs.declared.State.the-variants.{Collecting, HandleOut}
+use Rattle.reassemble.specs.declared.Reassembler.{Reassembler}
+use Rattle.reassemble.specs.declared.Gate.{Gate}
+use Rattle.reassemble.specs.declared.Gate.the-variants.{Shut, Pass}
+use Rattle.reassemble.specs.declared.Outcome.{Outcome}
+use Rattle.reassemble.specs.declared.Outcome.the-variants.{More, Whole, Freed}
+use Rattle.reassemble.specs.declared.Entry.{Entry}
+use Rattle.reassemble.specs.Slot.{blankSlot, isEmpty}
+
+-- destination own or 0
+unfoldable pub isLocal : Eid → Eid → Bool
+isLocal own dest = pick (sameEid dest own) true (sameEid dest nullEid)
+
+-- a good header to own or 0
+abbrev pub localHeader : Eid → HeaderRead → Bool
+localHeader own (Good h) = isLocal own (h .key .dest)
+localHeader own Bad = false
+
+abbrev pub localPacket : Eid → List ℕ → Bool
+localPacket own p = localHeader own (headerOf p)
+
+-- step 2: what an empty slot asks of a header
+unfoldable pub opening : Eid → Header → Bool
+opening own h = pick (isLocal own (h .key .dest)) (pick (sameEid (h .key .source) anyEid) false (h .som)) false
+
+-- a slot that collects, with nothing in it yet
+abbrev pub opened : Header → Cookie → Reassembler
+opened h cookie = record {
+  state = Collecting;
+  key = h .key;
+  typ = record { 0 = 0 };
+  ic = record { 0 = false };
+  «next_seq» = 0;
+  len = 0;
+  cookie = cookie;
+  stamp = record { clock = 0; counter = 0 };
+}
+
+-- step 2: TO=0 and no flow for source and tag: Unreachable. A reply's cookie is the flow's
+unfoldable pub gateReply : Header → Bool → Cookie → Gate
+gateReply h stands cookie = pick stands (Pass (opened h cookie)) (Shut Unreachable)
+
+-- step 2, for an empty slot: destination neither own nor 0, source 255, or no SOM: InvalidInput. Otherwise no cookie
+unfoldable pub gateEmpty : Eid → Header → Bool → Cookie → Gate
+gateEmpty own h stands cookie =
+    pick (opening own h) (pick (h .key .owner) (Pass (opened h Absent)) (gateReply h stands cookie)) (Shut InvalidInput)
+
+-- a slot that collects under the key takes the packet as it is
+unfoldable pub gate : Eid → Reassembler → Header → Bool → Cookie → Gate
+gate own s h stands cookie = pick (isEmpty s) (gateEmpty own h stands cookie) (Pass s)
+
+-- nothing of the packet is kept, and the slot is empty
+abbrev pub freed : Error → List ℕ → Entry
+freed err p = record { slot = blankSlot; at = 0; from = length p; outcome = Freed err }
+
+-- step 4: SOM sets type, IC and the sequence to expect, empties the body, stamps the slot
+abbrev pub begun : EventStamp → Header → ℕ → Reassembler → Reassembler
+begun now h kind s = record {
+  state = s .state;
+  key = s .key;
+  typ = typeOf kind .typ;
+  ic = typeOf kind .ic;
+  «next_seq» = h .seq;
+  len = 0;
+  cookie = s .cookie;  -- a collecting slot keeps its cookie
+  stamp = now;
+}
+
+-- step 6: n bytes more. EOM: slot done, stamped, handle out
+abbrev pub appended : Bool → EventStamp → ℕ → ℕ → Reassembler → Reassembler
+appended eom now issue n s =
+    pick eom
+    (record { state = HandleOut issue; key = s .key; typ = s .typ; ic = s .ic; «next_seq» = (s .«next_seq» % 4 + 1) % 4; len = s .len + n; cookie = s .cookie; stamp = now })
+    (record { state = s .state; key = s .key; typ = s .typ; ic = s .ic; «next_seq» = (s .«next_seq» % 4 + 1) % 4; len = s .len + n; cookie = s .cookie; stamp = s .stamp })
+
+abbrev pub outcomeOf : Bool → Outcome
+outcomeOf true = Whole
+outcomeOf false = More
+
+-- steps 5 and 6, the body starting at `start`: wrong sequence: InvalidInput, slot freed. Body above B: NoSpace, slot freed. Else appended
+unfoldable pub append : ℕ → EventStamp → ℕ → Reassembler → Header → List ℕ → ℕ → Entry
+append B now issue s h p start =
+    pick (eqb (h .seq) (s .«next_seq»))
+    (pick (ltb B (s .len + (length p - start))) (freed NoSpace p)
+    (record { slot = appended (h .eom) now issue (length p - start) s; at = s .len; from = start; outcome = outcomeOf (h .eom) }))
+    (freed InvalidInput p)
+
+-- step 3: SOM with 4 bytes only: InvalidInput, slot freed. Then 4, 5 and 6
+unfoldable pub enter : ℕ → EventStamp → ℕ → Reassembler → Header → List ℕ → Entry
+enter B now issue s h p =
+    pick (h .som) (pick (ltb (length p) 5) (freed InvalidInput p) (append B now issue (begun now h (getD p 4 0) s) h p 5))
+    (append B now issue s h p 4)
+
+-- the plan's bytes are the packet's, and fit the body
+pub record Planned (e : Entry) (size B : ℕ) : Type 0 where
+  pub within : e .from ≤ size
+  pub fits : e .at + (size - e .from) ≤ B

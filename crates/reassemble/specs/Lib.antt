@@ -1,0 +1,3 @@
+pub mod Slot
+pub mod Search
+pub mod Enter
