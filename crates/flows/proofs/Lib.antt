@@ -1,4 +1,3 @@
-pub mod Finds
 pub mod Bits
 pub mod TagLaws
 pub mod TableLaws

@@ -28,7 +28,9 @@ use Rattle.flows.specs.declared.TagFound.the-variants.{Free, NoneFree}
 use Rattle.flows.specs.Tags.{freeTagOf}
 use Rattle.flows.specs.Table.{noFlow, isFree, isFlow, flowPlace, standing, flowCookie, removed, usedTags, lasts, lastsBy, timeBy, newFlow, Table, Flowed, counted, insertFlow, turned, withTag, freshFlow, fixedFlow, setFlow, flowTimeout, fadedFlow, Unique}
 use Rattle.flows.specs.Codec.{FlowOk, AllOk}
-use Rattle.flows.proofs.Finds.{no-both, bool-cases, find-passes, find-first, find-is, find-set, passes-in, getD-set, getD-mapped}
+use Rattle.octets.proofs.Bools.{no-both, bool-cases}
+use Rattle.octets.proofs.Each.{getD-set, getD-mapped}
+use Rattle.octets.proofs.Finds.{find-hit, find-first, find-at, find-set, passes-in}
 use Rattle.flows.proofs.TagLaws.{used-is, Told, searched}
 
 -- ---- whose a place is
@@ -76,12 +78,12 @@ other-not peer tag p u f o i =
 
 module _ (peer : Eid) (tag : TagValue) (flows : List Flow) where
   pub stands : standing peer tag flows ≡ true → isFlow peer tag (getD flows (flowPlace peer tag flows) noFlow) ≡ true
-  stands y = find-passes (isFlow peer tag) noFlow flows (ltb-true _ _ y)
+  stands y = find-hit (isFlow peer tag) flows noFlow (ltb-true _ _ y)
 
   pub standing-at : (j : ℕ) → isFlow peer tag (getD flows j noFlow) ≡ true → standing peer tag flows ≡ true
   standing-at j y =
-      let h : j < length flows = passes-in (isFlow peer tag) noFlow flows j (free-not peer tag noFlow refl) y in
-      bool-cases (standing peer tag flows) (λ e. e) (λ e. absurd (no-both y (find-first (isFlow peer tag) noFlow flows j (past e h))))
+      let h : j < length flows = passes-in (isFlow peer tag) flows j noFlow (free-not peer tag noFlow refl) y in
+      bool-cases (standing peer tag flows) (λ e. e) (λ e. absurd (no-both y (find-first (isFlow peer tag) flows j noFlow (past e h))))
     where
       past : {j : ℕ} → standing peer tag flows ≡ false → j < length flows → j < flowPlace peer tag flows
       past e h = let g = ltb-false (flowPlace peer tag flows) (length flows) e in omega arith
@@ -113,7 +115,7 @@ module _ (p : Eid) (u : TagValue) (l : List Flow) (i : ℕ) (x : Flow) where
       k = flowPlace p u l
 
       place : flowPlace p u (set l i x) ≡ k
-      place = find-set (isFlow p u) noFlow l i x (n ∙ sym m)
+      place = find-set (isFlow p u) l i x noFlow (n ∙ sym m)
 
       there : getD (set l i x) k noFlow ≡ getD l k noFlow
       there =
@@ -125,7 +127,7 @@ module _ (p : Eid) (u : TagValue) (l : List Flow) (i : ℕ) (x : Flow) where
   -- of p's u, which does not stand
   pub set-there : i < length l → isFlow p u x ≡ true → standing p u l ≡ false → flowPlace p u (set l i x) ≡ i
   set-there h y n =
-      find-is (isFlow p u) noFlow (set l i x) i (rw length-set h) (rw (getD-set-same l i x noFlow h) y)
+      find-at (isFlow p u) (set l i x) i noFlow (rw length-set h) (rw (getD-set-same l i x noFlow h) y)
       (λ k g. rw (getD-set-other l i k x noFlow (λ e. omega arith)) (absent p u l n k))
 
 -- a store keeps the places apart, where what is stored stands nowhere else
@@ -233,7 +235,7 @@ module _ (peer : Eid) (tag : TagValue) (expires : Bool) (cookie : Cookie) (t : T
 
   -- the place taken was free
   taken-free : ltb at (length (t .flows)) ≡ true → (p : Eid) (u : TagValue) → isFlow p u (getD (t .flows) at noFlow) ≡ false
-  taken-free y p u = free-not p u _ (not-true _ (find-passes isFree noFlow (t .flows) (ltb-true _ _ y)))
+  taken-free y p u = free-not p u _ (not-true _ (find-hit isFree (t .flows) noFlow (ltb-true _ _ y)))
 
   -- by cases: the new flow at the first free place, or the table is full
   by-place : (P : List Flow → Type 0) → (ltb at (length (t .flows)) ≡ true → P (set (t .flows) at new))
@@ -378,10 +380,10 @@ module _ (now : ℕ) where
         there = faded-at k ∙ pick-false _ _ _ n
 
         before : (j : ℕ) → j < k → isFlow p u (getD new j noFlow) ≡ false
-        before j h = bool-cases (isFlow p u (getD new j noFlow)) (λ b. absurd (no-both (faded-from p u j b) (find-first (isFlow p u) noFlow flows j h))) (λ e. e)
+        before j h = bool-cases (isFlow p u (getD new j noFlow)) (λ b. absurd (no-both (faded-from p u j b) (find-first (isFlow p u) flows j noFlow h))) (λ e. e)
 
         place : flowPlace p u new ≡ k
-        place = find-is (isFlow p u) noFlow new k (rw faded-length (ltb-true k (length flows) y)) (ap (isFlow p u) there ∙ stands p u flows y) before
+        place = find-at (isFlow p u) new k noFlow (rw faded-length (ltb-true k (length flows) y)) (ap (isFlow p u) there ∙ stands p u flows y) before
 
     -- an expired one is gone
     pub faded-gone : (p : Eid) (u : TagValue) → Unique flows → isExpired (flowTimeout now (getD flows (flowPlace p u flows) noFlow)) ≡ true

@@ -23,7 +23,7 @@ use Rattle.flows.specs.declared.TagFound.{TagFound}
 use Rattle.flows.specs.declared.TagFound.the-variants.{Free, NoneFree}
 use Rattle.flows.specs.Tags.{bitsOf, isSet, setBit, marked, turn, isFreeIn, freeTagOf, freeCount, countFree}
 use Rattle.flows.specs.Table.{noFlow, isFlow, standing, usedTags}
-use Rattle.flows.proofs.Finds.{find-passes, find-first, find-is, find-none, some-found, some-snoc}
+use Rattle.octets.proofs.Finds.{find-hit, find-first, find-at, find-none, some-found, some-snoc}
 use Rattle.flows.proofs.Bits.{bit-one, twice, halved, set-halved}
 
 -- ---- bits that a test says
@@ -121,7 +121,7 @@ standing-next peer tag flows i h =
     let p = isFlow peer tag in
     let l = take i flows in
     let x = getD flows i noFlow in
-    rw (add-one i, take-suc flows i noFlow h, some-found p noFlow (l ++ (x ∷ [])), some-found p noFlow l, some-snoc p noFlow l x)
+    rw (add-one i, take-suc flows i noFlow h, some-found p (l ++ (x ∷ [])), some-found p l, some-snoc p l x)
 
 keep : (b : Bool) → pick b true false ≡ b
 unfolding pick
@@ -183,14 +183,14 @@ module _ (used start : ℕ) where
   free-found k h y first =
       let p = isFreeIn used in
       let before : (j : ℕ) → j < k → p (getD (turn start) j 0) ≡ false = λ j l. ap p (turn-at start j (omega arith)) ∙ first j l in
-      let at : find p (turn start) ≡ k = find-is p 0 (turn start) k h (ap p (turn-at start k h) ∙ y) before in
+      let at : find p (turn start) ≡ k = find-at p (turn start) k 0 h (ap p (turn-at start k h) ∙ y) before in
       rw at (pick-true (ltb k 8) _ _ (lt-ltb k 8 h))
 
   -- none is free
   pub free-none : ((j : ℕ) → j < 8 → isFreeIn used ((start + j) % 8) ≡ false) → freeTagOf used start ≡ NoneFree
   unfolding freeTagOf
   free-none nowhere =
-      let at : find (isFreeIn used) (turn start) ≡ 8 = find-none (isFreeIn used) 0 (turn start) (λ j l. ap (isFreeIn used) (turn-at start j l) ∙ nowhere j l) in
+      let at : find (isFreeIn used) (turn start) ≡ 8 = find-none (isFreeIn used) (turn start) 0 (λ j l. ap (isFreeIn used) (turn-at start j l) ∙ nowhere j l) in
       rw at (pick-false (ltb 8 8) _ _ refl)
 
   -- a free tag, the first one from start on
@@ -224,10 +224,10 @@ module _ (used start : ℕ) where
       found y =
           let h : k < 8 = ltb-true k 8 y in record {
             below = mod-lt (start + k) (omega arith);
-            clear = not-true _ (ap p (sym (turn-at start k h)) ∙ find-passes p 0 (turn start) h);
+            clear = not-true _ (ap p (sym (turn-at start k h)) ∙ find-hit p (turn start) 0 h);
             turns = k;
             there = refl;
-            before = λ j l. not-false _ (ap p (sym (turn-at start j (omega arith))) ∙ find-first p 0 (turn start) j l);
+            before = λ j l. not-false _ (ap p (sym (turn-at start j (omega arith))) ∙ find-first p (turn start) j 0 l);
           }
 
       none : ltb k 8 ≡ false → (t : ℕ) → t < 8 → isSet t used ≡ true
@@ -235,4 +235,4 @@ module _ (used start : ℕ) where
           let j = (t + (8 - start % 8)) % 8 in
           let l : j < 8 = mod-lt (t + (8 - start % 8)) (omega arith) in
           let m : 8 ≤ k = ltb-false k 8 n in
-          not-false _ (ap p (sym (turn-at start j l ∙ met t h)) ∙ find-first p 0 (turn start) j (omega arith))
+          not-false _ (ap p (sym (turn-at start j l ∙ met t h)) ∙ find-first p (turn start) j 0 (omega arith))

@@ -1,12 +1,15 @@
 -- Laws of `find`: for a loop that walks a list upward, what the place found is, and what a store does to it.
 use Prim.Native.Nat.{ℕ, zero, suc, _+_, _≤_, _<_}
 use native.Mathlib.Omega.{arith}
-use mathlib.Core.Path.{_≡_, refl, sym, ap}
-use mathlib.Core.List.{List, [], _∷_}
+use mathlib.Core.Path.{_≡_, refl, sym, ap, _∙_}
+use mathlib.Core.List.{List, [], _∷_, _++_}
 use mathlib.Core.Bool.{Bool, true, false}
+use lib.Dec.{ltb, leb·suc-suc}
 use lib.ListN.{length, getD, set}
+use borrow.Author.Tests.{lt-ltb}
 use Rattle.octets.specs.Pick.{pick, pick-cases}
 use Rattle.octets.specs.Find.{find}
+use Rattle.octets.proofs.Bools.{no-both, bool-cases}
 
 module _ {A : Type 0} (p : A → Bool) where
   pub find-bound : (l : List A) → find p l ≤ length l
@@ -61,12 +64,22 @@ module _ {A : Type 0} (p : A → Bool) where
   pub find-at : (l : List A) (i : ℕ) (d : A) → i < length l → p (getD l i d) ≡ true → ((k : ℕ) → k < i → p (getD l k d) ≡ false) → find p l ≡ i
   find-at l i d m t f = sym (here l i d (find-least l i d (omega arith) f) m t)
 
-  -- a store of an element that does not pass, over one that does not
-  pub find-set : (l : List A) (i : ℕ) (y d : A) → p (getD l i d) ≡ false → p y ≡ false → find p (set l i y) ≡ find p l
-  unfolding find pick
-  find-set [] i y d f g = refl
-  find-set (x ∷ l) zero y d f g = rw (f, g)
-  find-set (x ∷ l) (suc i) y d f g = rw (find-set l i y d f g)
+  -- it passes nowhere: the length
+  pub find-none : (l : List A) (d : A) → ((k : ℕ) → k < length l → p (getD l k d) ≡ false) → find p l ≡ length l
+  find-none l d f = let a = find-least l (length l) d (omega arith) f in let b = find-bound l in omega arith
+
+  -- it passes within the list, where it does not at the default
+  pub passes-in : (l : List A) (j : ℕ) (d : A) → p d ≡ false → p (getD l j d) ≡ true → j < length l
+  passes-in [] j d n y = absurd (no-both y n)
+  passes-in (x ∷ l) zero d n y = omega arith
+  passes-in (x ∷ l) (suc j) d n y = let h = passes-in l j d n y in omega arith
+
+  -- a store that passes as what stood there leaves the place
+  pub find-set : (l : List A) (i : ℕ) (y d : A) → p y ≡ p (getD l i d) → find p (set l i y) ≡ find p l
+  unfolding find
+  find-set [] i y d e = refl
+  find-set (x ∷ l) zero y d e = rw e
+  find-set (x ∷ l) (suc i) y d e = rw (find-set l i y d e)
 
   -- a store of an element that passes, with none before it that does
   pub find-set-here : (l : List A) (i : ℕ) (y : A) → i < length l → i ≤ find p l → p y ≡ true → find p (set l i y) ≡ i
@@ -76,6 +89,21 @@ module _ {A : Type 0} (p : A → Bool) where
   find-set-here (x ∷ l) (suc i) y m h t =
       let f : p x ≡ false = find-first (x ∷ l) 0 x (omega arith) in
       rw f (ap suc (find-set-here l i y (omega arith) (omega (arith, rw f at h)) t))
+
+  -- it passes somewhere
+  unfoldable pub some : List A → Bool
+  some [] = false
+  some (x ∷ l) = pick (p x) true (some l)
+
+  pub some-found : (l : List A) → ltb (find p l) (length l) ≡ some l
+  unfolding find some pick
+  some-found [] = refl
+  some-found (x ∷ l) = bool-cases (p x) (λ e. rw e (lt-ltb 0 (suc (length l)) (omega arith))) (λ e. rw e (leb·suc-suc (suc (find p l)) (length l) ∙ some-found l))
+
+  pub some-snoc : (l : List A) (x : A) → some (l ++ (x ∷ [])) ≡ pick (some l) true (p x)
+  unfolding some pick
+  some-snoc [] x = bool-cases (p x) (λ e. rw e) (λ e. rw e)
+  some-snoc (y ∷ l) x = bool-cases (p y) (λ e. rw e) (λ e. rw e (some-snoc l x))
 
 -- two tests that agree on each element
 pub find-ext : {A : Type 0} (p q : A → Bool) (l : List A) (d : A) → ((i : ℕ) → i < length l → p (getD l i d) ≡ q (getD l i d)) → find p l ≡ find q l

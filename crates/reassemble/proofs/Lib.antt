@@ -1,4 +1,2 @@
-pub mod Finds
-pub mod Order
 pub mod Searches
 pub mod Figures

@@ -1,5 +1,5 @@
 -- What the searches over slots find, and what a packet makes of a slot: laws for callers, which open no definition.
--- Leans on `octets` for the first place, on proofs/Order.antt for stamps.
+-- Leans on `octets` for the first place, on `stamp` for the order of stamps.
 use Prim.Native.Nat.{ℕ, zero, suc, _+_, _-_, _≤_, _<_, suc-le-suc}
 use native.Mathlib.Nat.{not-suc-le-zero, le-of-suc-le-suc, zero-lt-suc}
 use native.Mathlib.Omega.{arith}
@@ -29,7 +29,8 @@ use Rattle.reassemble.specs.declared.Entry.{Entry}
 use Rattle.reassemble.specs.Slot.{blankSlot, isEmpty, isDone, handleTaken, collects, collectsIn, emptyState, doneState, outState}
 use Rattle.reassemble.specs.Search.{slotFor, earliest}
 use Rattle.reassemble.specs.Enter.{enter, append, appended, begun, freed, outcomeOf, Planned}
-use Rattle.reassemble.proofs.Order.{no-both, earlier-irreflexive, earlier-asymmetric, not-earlier-trans}
+use Rattle.octets.proofs.Bools.{no-both}
+use Rattle.stamp.proofs.Order.{earlier-irreflexive, earlier-asymmetric, not-earlier-trans}
 
 -- why a slot is found: it collects under the header's key, or is empty; for a bad header it is empty
 abbrev pub FoundFor : HeaderRead → Reassembler → Type 0

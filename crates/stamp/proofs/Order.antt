@@ -1,4 +1,4 @@
--- The order of stamps is total, and a next event is later than every stamp given before at that clock, until the counter stays.
+-- The order of stamps is strict and total, and a next event is later than every stamp given before at that clock, until the counter stays.
 use Prim.Native.Nat.{ℕ, _+_, _<_, _≤_}
 use native.Mathlib.Omega.{arith}
 use mathlib.Core.Path.{_≡_, refl, sym, ap, _∙_}
@@ -6,7 +6,7 @@ use mathlib.Core.Logic.{_⊎_, inl, inr, ⊎-elim}
 use mathlib.Core.Bool.{Bool, true, false}
 use lib.Dec.{ltb}
 use borrow.Author.Tests.{lt-ltb, le-ltb, ltb-true, ltb-false}
-use Rattle.octets.proofs.Bools.{false-true}
+use Rattle.octets.proofs.Bools.{false-true, no-both, fails}
 use Rattle.octets.specs.Pick.{pick, pick-true, pick-false}
 use Rattle.stamp.specs.declared.EventStamp.{EventStamp}
 use Rattle.stamp.specs.Stamp.{earlier, next, lastCount}
@@ -74,3 +74,34 @@ later s now room was =
 pub stays : (s : EventStamp) → lastCount ≤ s .counter → next s ≡ s
 unfolding next
 stays s h = pick-false (ltb (s .counter) lastCount) (record { clock = s .clock; counter = s .counter + 1 }) s (le-ltb (s .counter) lastCount h)
+
+-- by clock, or by counter at one clock
+abbrev Ordered : EventStamp → EventStamp → Type 0
+Ordered a b = (a .clock < b .clock) ⊎ ((a .clock ≡ b .clock) × (a .counter < b .counter))
+
+chain : (a b c : EventStamp) → Ordered a b → Ordered b c → Ordered a c
+chain a b c (inl h) (inl k) = inl (omega arith)
+chain a b c (inl h) (inr k) = inl (omega arith)
+chain a b c (inr h) (inl k) = inl (omega arith)
+chain a b c (inr h) (inr k) = inr (omega arith, omega arith)
+
+never : (a : EventStamp) → Ordered a a → ⊥
+never a (inl h) = omega arith
+never a (inr h) = omega arith
+
+-- no stamp is before itself
+pub earlier-irreflexive : (a : EventStamp) → earlier a a ≡ false
+earlier-irreflexive a = fails (earlier a a) (λ e. never a (earlier-is a a e .order))
+
+-- of two stamps one at most is before the other
+pub earlier-asymmetric : (a b : EventStamp) → earlier a b ≡ true → earlier b a ≡ false
+earlier-asymmetric a b e = fails (earlier b a) (λ f. never a (chain a b a (earlier-is a b e .order) (earlier-is b a f .order)))
+
+-- a is not before b, b not before c: a is not before c
+pub not-earlier-trans : (a b c : EventStamp) → earlier a b ≡ false → earlier b c ≡ false → earlier a c ≡ false
+not-earlier-trans a b c e f = fails (earlier a c) (λ g. go g (total a b))
+  where
+    go : earlier a c ≡ true → (earlier a b ≡ true) ⊎ ((a ≡ b) ⊎ (earlier b a ≡ true)) → ⊥
+    go g (inl h) = no-both h e
+    go g (inr (inl h)) = no-both (sym (ap (λ (x : EventStamp). earlier x c) h) ∙ g) f
+    go g (inr (inr h)) = no-both (is-earlier b c (record { order = chain b a c (earlier-is b a h .order) (earlier-is a c g .order) })) f
