@@ -30,15 +30,9 @@ use Rattle.fragment.specs.declared.Started.the-variants.{Sends, Refused}
 use Rattle.fragment.specs.Step.{Step, Sound, stepOf, newOf, fresh, fitting, ends, headOf, packetOf, advancedBy, nextOf}
 use Rattle.fragment.specs.Cutting.{PacketIs, InTurn, saysSom, bodyIn, joined, kindIn, Carries}
 use Rattle.fragment.specs.Run.{wrote, written, after}
+use Rattle.octets.proofs.Bools.{no-both, bool-cases}
 use Rattle.mctp.proofs.RoundTrip.{read-back, type-back}
 use Rattle.fragment.proofs.Steps.{step-done, step-small, step-emits}
-
-pub by-test : {P : Type 0} (b : Bool) → (b ≡ true → P) → (b ≡ false → P) → P
-by-test true t f = t refl
-by-test false t f = f refl
-
-pub not-both : {P : Type 0} {b : Bool} → b ≡ true → b ≡ false → P
-not-both p q = let z : _≡_ {A = ℕ} 0 1 = cc in absurd (omega arith)
 
 -- packets in turn, from the first on
 module _ {key : Key} {mtu number : ℕ} {som : Bool} {p : List ℕ} where
@@ -157,8 +151,8 @@ so-far-none f payload s = record {
   turn = subst (λ (b : Bool). InTurn (keyUnder (f .src) (f .dest) (f .tag)) (f .mtu) (f .first) b (f .seq) []) (sym (s .going)) tt;
   low = omega arith;
   body = let z : f .«payload_used» - f .«payload_used» ≡ 0 = omega arith in rw z;
-  all = λ d. not-both d (s .going);
-  kind = λ _ d. not-both d (s .going);
+  all = λ d. absurd (no-both d (s .going));
+  kind = λ _ d. absurd (no-both d (s .going));
 }
 
 module _ (f : Fragmenter) (payload : List ℕ) (n : ℕ) (sending : Sending f payload) (room : lead (f .first) ≤ n) where
@@ -239,7 +233,7 @@ module _ (f : Fragmenter) (payload : List ℕ) (n : ℕ) (sending : Sending f pa
   so-far-emits ns more =
       let e = step-emits f payload n (sending .going) room (sending .used) in
       rw (written-on f payload n ns e, after-on f payload n ns e)
-      (by-test (ends f (length payload) n)
+      (bool-cases (ends f (length payload) n)
       (λ d. rw (written-done g payload ns d, after-done g payload ns d) (so-far-last d))
       (λ d. so-far-more d (more d)))
 
@@ -247,7 +241,7 @@ module _ (f : Fragmenter) (payload : List ℕ) (n : ℕ) (sending : Sending f pa
 pub so-far-on : (ns : List ℕ) (f : Fragmenter) (payload : List ℕ) → Sending f payload → SoFar f payload (written f payload ns) (after f payload ns)
 so-far-on [] f payload s = rw (written-nil f payload, after-nil f payload) (so-far-none f payload s)
 so-far-on (n ∷ ns) f payload s =
-    by-test (ltb n (lead (f .first)))
+    bool-cases (ltb n (lead (f .first)))
     (λ t.
     let e = step-small f payload n (s .going) (ltb-true n (lead (f .first)) t) in
     rw (written-on f payload n ns e, after-on f payload n ns e) (so-far-on ns f payload s))

@@ -14,7 +14,8 @@ use Rattle.fragment.specs.declared.SendOutput.the-variants.{Packet}
 use Rattle.fragment.specs.Step.{Step, stepOf, fitting, ends, headOf, packetOf}
 use Rattle.fragment.specs.Run.{written, after}
 use Rattle.fragment.proofs.Steps.{step-small, step-emits, packet-with}
-use Rattle.fragment.proofs.Cuts.{by-test, written-nil, after-nil, written-on, after-on, written-done, after-done}
+use Rattle.octets.proofs.Bools.{bool-cases}
+use Rattle.fragment.proofs.Cuts.{written-nil, after-nil, written-on, after-on, written-done, after-done}
 
 -- each size of the list is so
 unfoldable pub Every : (ℕ → Type 0) → List ℕ → Type 0
@@ -34,7 +35,7 @@ module _ (P : ℕ → Type 0) (n : ℕ) (ns : List ℕ) where
 pub refused-steps : (f : Fragmenter) (payload ns : List ℕ) → Every (λ n. n < lead (f .first)) ns → (written f payload ns ≡ []) × (after f payload ns ≡ f)
 refused-steps f payload [] u = (written-nil f payload, after-nil f payload)
 refused-steps f payload (n ∷ ns) u =
-    by-test (f .done) (λ d. (written-done f payload (n ∷ ns) d, after-done f payload (n ∷ ns) d))
+    bool-cases (f .done) (λ d. (written-done f payload (n ∷ ns) d, after-done f payload (n ∷ ns) d))
     (λ d.
     let e = step-small f payload n d (every-first (λ m. m < lead (f .first)) n ns u) in
     let r = refused-steps f payload ns (every-rest (λ m. m < lead (f .first)) n ns u) in
