@@ -1,5 +1,5 @@
 // The fragmenter: one message cut into packets, one step a packet, after the Rust's src/fragment.rs.
-// Leans on `mctp` for the header and on `octets` for the copying leaf. Definitions: specs/Step.antt; what DSP0236 asks of the
+// Leans on `mctp` for the header and on `copying` for the copying leaf. Definitions: specs/Step.antt; what DSP0236 asks of the
 // packets stands apart from the step, in specs/Cutting.antt.
 ghost use mathlib.Core.Path.{_≡_};
 ghost use mathlib.Core.List.{_++_, _∷_};
@@ -79,7 +79,7 @@ fn write_first(out: &mut [u8], h: Header, kind: u8, payload: &[u8], used: usize,
     mctp::write_header(out, h);
     octets::put1(out, 4, kind);
     let end = used + n;
-    octets::copy(&mut out[5..], &payload[used..end]);
+    copying::copy(&mut out[5..], &payload[used..end]);
 }
 
 // A later packet: header, and n bytes of the payload straight into the buffer.
@@ -89,7 +89,7 @@ fn write_later(out: &mut [u8], h: Header, payload: &[u8], used: usize, n: usize)
 {
     mctp::write_header(out, h);
     let end = used + n;
-    octets::copy(&mut out[4..], &payload[used..end]);
+    copying::copy(&mut out[4..], &payload[used..end]);
 }
 
 impl Fragmenter {

@@ -5,5 +5,4 @@ pub mod Finds
 pub mod Each
 pub mod Part
 pub mod Number
-pub mod Front
 pub mod Region

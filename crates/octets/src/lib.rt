@@ -1,13 +1,10 @@
-// The floor of all crates: bytes of a buffer as little-endian numbers, and the copy of a slice (moves.rt).
+// The floor of all crates: bytes of a buffer as little-endian numbers.
 // specs/ and proofs/ hold the definitions and laws of parts, numbers, regions, choices and first places that the other crates cite.
 // Leans on the kit alone.
-mod moves;
-
 ghost use mathlib.Core.Path.{_≡_};
 ghost use Prim.Native.Nat.{_+_, _≤_};
 ghost use lib.ListN.{length};
 ghost use Rattle.octets.specs.Bytes.{le, field, over};
-pub use moves::copy;
 
 pub fn get1(b: &[u8], at: usize) -> u8
     requires { ⌜ at + 1 ≤ length (now b) ⌝ }

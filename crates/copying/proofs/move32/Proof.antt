@@ -1,8 +1,8 @@
 -- `move32` is two moves of 16 bytes side by side (`moved-on`).
 use borrow.Author.Needs.{needs}
-use Rattle.octets.proofs.Front.{moved-on}
-use Rattle.octets.proofs.moves.move32.Statement.{statement}
-use Rattle.octets.proofs.moves.move32.Tie as tie
+use Rattle.copying.proofs.Front.{moved-on}
+use Rattle.copying.proofs.move32.Statement.{statement}
+use Rattle.copying.proofs.move32.Tie as tie
 
 move16-requires : tie.Need-move16-requires
 move16-requires c κs = search needs

@@ -3,9 +3,9 @@ use Prim.Native.Nat.{_≤_, _-_}
 use mathlib.Core.Path.{_≡_}
 use lib.ListN.{length}
 use borrow.Author.Needs.{needs}
-use Rattle.octets.proofs.Front.{front, front-zero, front-next, front-last}
-use Rattle.octets.proofs.moves.long.Statement.{statement}
-use Rattle.octets.proofs.moves.long.Tie as tie
+use Rattle.copying.proofs.Front.{front, front-zero, front-next, front-last}
+use Rattle.copying.proofs.long.Statement.{statement}
+use Rattle.copying.proofs.long.Tie as tie
 
 abbrev Inv-loop : tie.InvT-loop
 Inv-loop dst₀ src n i₀ dst i = (i ≤ length src) × (n ≡ length src) × (length dst ≡ length dst₀) × (dst ≡ front i src dst₀)

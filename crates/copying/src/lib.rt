@@ -1,19 +1,19 @@
-// The copying leaf: all of a slice to the front of another, by moves of 1, 2, 4, 8, 16, 32 and 64 bytes. Leans on the numbers of lib.rt.
+// The copying leaf: all of a slice to the front of another, by moves of 1, 2, 4, 8, 16, 32 and 64 bytes. Leans on the numbers of `octets`.
 // Each move reads all its bytes before it writes the first: a `&mut` is not marked noalias, and only so LLVM makes a move one load
 // and one store.
 ghost use mathlib.Core.Path.{_≡_};
 ghost use mathlib.Core.List.{_++_};
 ghost use Prim.Native.Nat.{_+_, _≤_, _<_};
 ghost use lib.ListN.{length, drop};
 ghost use Rattle.octets.specs.Bytes.{part, over};
-use crate::get1;
-use crate::get2;
-use crate::get4;
-use crate::get8;
-use crate::put1;
-use crate::put2;
-use crate::put4;
-use crate::put8;
+use octets::get1;
+use octets::get2;
+use octets::get4;
+use octets::get8;
+use octets::put1;
+use octets::put2;
+use octets::put4;
+use octets::put8;
 
 // 1 byte of `src` from `i`, to the same place of `dst`; and so 2, 4, .. 64.
 fn move1(dst: &mut [u8], src: &[u8], i: usize)

@@ -1,8 +1,8 @@
 -- `move2` stores the number that it reads, whose bytes are those read (`moved`).
 use borrow.Author.Needs.{needs}
-use Rattle.octets.proofs.Front.{moved}
-use Rattle.octets.proofs.moves.move2.Statement.{statement}
-use Rattle.octets.proofs.moves.move2.Tie as tie
+use Rattle.copying.proofs.Front.{moved}
+use Rattle.copying.proofs.move2.Statement.{statement}
+use Rattle.copying.proofs.move2.Tie as tie
 
 get2-requires : tie.Need-get2-requires
 get2-requires c κs = search needs

@@ -1,8 +1,8 @@
 -- `move1` stores the number that it reads, whose bytes are those read (`moved`).
 use borrow.Author.Needs.{needs}
-use Rattle.octets.proofs.Front.{moved}
-use Rattle.octets.proofs.moves.move1.Statement.{statement}
-use Rattle.octets.proofs.moves.move1.Tie as tie
+use Rattle.copying.proofs.Front.{moved}
+use Rattle.copying.proofs.move1.Statement.{statement}
+use Rattle.copying.proofs.move1.Tie as tie
 
 get1-requires : tie.Need-get1-requires
 get1-requires c κs = search needs

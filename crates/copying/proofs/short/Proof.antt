@@ -1,9 +1,9 @@
 -- `short` moves both ends, which overlap or meet, since the slice is at most twice as long as one move.
 use denote.Ref.{now}
 use borrow.Author.Needs.{needs}
-use Rattle.octets.proofs.Front.{both-ends, front-all, front-first, front-zero}
-use Rattle.octets.proofs.moves.short.Statement.{statement}
-use Rattle.octets.proofs.moves.short.Tie as tie
+use Rattle.copying.proofs.Front.{both-ends, front-all, front-first, front-zero}
+use Rattle.copying.proofs.short.Statement.{statement}
+use Rattle.copying.proofs.short.Tie as tie
 
 move8-requires : tie.Need-move8-requires
 move8-requires c κs = search needs

@@ -1,8 +1,8 @@
 -- `move4` stores the number that it reads, whose bytes are those read (`moved`).
 use borrow.Author.Needs.{needs}
-use Rattle.octets.proofs.Front.{moved}
-use Rattle.octets.proofs.moves.move4.Statement.{statement}
-use Rattle.octets.proofs.moves.move4.Tie as tie
+use Rattle.copying.proofs.Front.{moved}
+use Rattle.copying.proofs.move4.Statement.{statement}
+use Rattle.copying.proofs.move4.Tie as tie
 
 get4-requires : tie.Need-get4-requires
 get4-requires c κs = search needs

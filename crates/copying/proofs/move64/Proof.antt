@@ -1,8 +1,8 @@
 -- `move64` is two moves of 32 bytes side by side (`moved-on`).
 use borrow.Author.Needs.{needs}
-use Rattle.octets.proofs.Front.{moved-on}
-use Rattle.octets.proofs.moves.move64.Statement.{statement}
-use Rattle.octets.proofs.moves.move64.Tie as tie
+use Rattle.copying.proofs.Front.{moved-on}
+use Rattle.copying.proofs.move64.Statement.{statement}
+use Rattle.copying.proofs.move64.Tie as tie
 
 move32-requires : tie.Need-move32-requires
 move32-requires c κs = search needs

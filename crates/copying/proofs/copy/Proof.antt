@@ -1,8 +1,8 @@
 -- `copy` goes by the length; the moves of both ends overlap or meet.
 use borrow.Author.Needs.{needs}
-use Rattle.octets.proofs.Front.{both-ends}
-use Rattle.octets.proofs.moves.copy.Statement.{statement}
-use Rattle.octets.proofs.moves.copy.Tie as tie
+use Rattle.copying.proofs.Front.{both-ends}
+use Rattle.copying.proofs.copy.Statement.{statement}
+use Rattle.copying.proofs.copy.Tie as tie
 
 short-requires : tie.Need-short-requires
 short-requires c κs = search needs

@@ -1,9 +1,9 @@
 -- `move16` moves 16 bytes as two numbers of 8, both read before the first is stored; the moves lie side by side.
 use mathlib.Core.Path.{refl}
 use borrow.Author.Needs.{needs}
-use Rattle.octets.proofs.Front.{moved, moved-on}
-use Rattle.octets.proofs.moves.move16.Statement.{statement}
-use Rattle.octets.proofs.moves.move16.Tie as tie
+use Rattle.copying.proofs.Front.{moved, moved-on}
+use Rattle.copying.proofs.move16.Statement.{statement}
+use Rattle.copying.proofs.move16.Tie as tie
 
 get8-requires : tie.Need-get8-requires
 get8-requires c κs = search needs

@@ -1,8 +1,8 @@
 -- `move8` stores the number that it reads, whose bytes are those read (`moved`).
 use borrow.Author.Needs.{needs}
-use Rattle.octets.proofs.Front.{moved}
-use Rattle.octets.proofs.moves.move8.Statement.{statement}
-use Rattle.octets.proofs.moves.move8.Tie as tie
+use Rattle.copying.proofs.Front.{moved}
+use Rattle.copying.proofs.move8.Statement.{statement}
+use Rattle.copying.proofs.move8.Tie as tie
 
 get8-requires : tie.Need-get8-requires
 get8-requires c κs = search needs
