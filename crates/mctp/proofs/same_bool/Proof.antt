@@ -1,16 +1,13 @@
+-- `same_bool` is `sameBool`, by the two cases of its first argument.
 use Rattle.mctp.specs.Terms.{sameBool}
 use Rattle.octets.proofs.Tests.{picks}
 use Rattle.mctp.proofs.same_bool.Statement.{statement}
 use Rattle.mctp.proofs.same_bool.Tie as tie
-use Rattle.mctp.proofs.same_bool.Reads as reads
-use Rattle.mctp.proofs.same_bool.Lts as lts
 
--- src/lib.rt:132:9
 returns : tie.Need-returns
 unfolding sameBool
 returns c = rw (c .if1 .taken)
 
--- src/lib.rt:128:1
 returns-2 : tie.Need-returns-2
 unfolding sameBool
 returns-2 c = rw (c .if1 .left)

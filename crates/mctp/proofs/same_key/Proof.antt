@@ -1,33 +1,26 @@
+-- `same_key` is `sameKey`: the tests come in its order.
 use mathlib.Core.Path.{sym, _∙_}
 use borrow.Author.Needs.{needs}
 use Rattle.octets.proofs.Tests.{picks}
 use Rattle.mctp.specs.Terms.{sameKey}
 use Rattle.mctp.proofs.same_key.Statement.{statement}
 use Rattle.mctp.proofs.same_key.Tie as tie
-use Rattle.mctp.proofs.same_key.Reads as reads
-use Rattle.mctp.proofs.same_key.Lts as lts
-use Rattle.mctp.proofs.same_bool.Reads as same-bool-reads
 
--- src/lib.rt:141:9
 returns : tie.Need-returns
 unfolding sameKey
 returns c = search picks
 
--- src/lib.rt:144:9
 returns-2 : tie.Need-returns-2
 unfolding sameKey
 returns-2 c = search picks
 
--- src/lib.rt:146:8
 same-bool-requires : tie.Need-same-bool-requires
 same-bool-requires c κs = search needs
 
--- src/lib.rt:147:9
 returns-3 : tie.Need-returns-3
 unfolding sameKey
 returns-3 c = search (picks, sym (c .before .before .before .same-bool .ensures) ∙ c .before .before .if3 .taken)
 
--- src/lib.rt:137:1
 returns-4 : tie.Need-returns-4
 unfolding sameKey
 returns-4 c = search (picks, sym (c .before .same-bool .ensures) ∙ c .if3 .left)

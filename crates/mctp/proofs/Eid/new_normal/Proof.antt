@@ -1,21 +1,17 @@
+-- `new_normal` answers as `normalEid` says: each branch is one of its choices.
 use Rattle.octets.proofs.Tests.{picks}
 use Rattle.mctp.specs.Terms.{normalEid}
 use Rattle.mctp.proofs.Eid.new_normal.Statement.{statement}
 use Rattle.mctp.proofs.Eid.new_normal.Tie as tie
-use Rattle.mctp.proofs.Eid.new_normal.Reads as reads
-use Rattle.mctp.proofs.Eid.new_normal.Lts as lts
 
--- src/lib.rt:84:13
 returns : tie.Need-returns
 unfolding normalEid
 returns c = search picks
 
--- src/lib.rt:87:13
 returns-2 : tie.Need-returns-2
 unfolding normalEid
 returns-2 c = search picks
 
--- src/lib.rt:80:5
 returns-3 : tie.Need-returns-3
 unfolding normalEid
 returns-3 c = search picks

@@ -1,30 +1,24 @@
+-- `check_timeout` is `timeoutOf`: later than now, older than the timeout, or what is left.
 use borrow.Author.Needs.{needs}
 use Rattle.octets.proofs.Tests.{picks}
 use Rattle.stamp.specs.Stamp.{timeoutOf, expired}
 use Rattle.stamp.proofs.EventStamp.check_timeout.Statement.{statement}
 use Rattle.stamp.proofs.EventStamp.check_timeout.Tie as tie
-use Rattle.stamp.proofs.EventStamp.check_timeout.Reads as reads
-use Rattle.stamp.proofs.EventStamp.check_timeout.Lts as lts
 
--- src/lib.rt:61:13
 returns : tie.Need-returns
 unfolding timeoutOf expired
 returns c = search picks
 
--- src/lib.rt:65:13
 returns-2 : tie.Need-returns-2
 unfolding timeoutOf expired
 returns-2 c = search picks
 
--- src/lib.rt:67:24
 sub-t7 : tie.Need-sub-t7
 sub-t7 c = search needs
 
--- src/lib.rt:67:23
 cast-t8 : tie.Need-cast-t8
 cast-t8 c = search needs
 
--- src/lib.rt:57:5
 returns-3 : tie.Need-returns-3
 unfolding timeoutOf expired
 returns-3 c = search picks

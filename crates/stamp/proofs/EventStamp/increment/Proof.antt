@@ -1,21 +1,17 @@
+-- `increment` is `next`: one more, or the largest value, which stays.
 use borrow.Author.Needs.{needs}
 use Rattle.octets.proofs.Tests.{picks}
 use Rattle.stamp.specs.Stamp.{next}
 use Rattle.stamp.proofs.EventStamp.increment.Statement.{statement}
 use Rattle.stamp.proofs.EventStamp.increment.Tie as tie
-use Rattle.stamp.proofs.EventStamp.increment.Reads as reads
-use Rattle.stamp.proofs.EventStamp.increment.Lts as lts
 
--- src/lib.rt:25:26
 add-t3 : tie.Need-add-t3
 add-t3 c = search needs
 
--- src/lib.rt:23:13
 returns : tie.Need-returns
 unfolding next
 returns c = search picks
 
--- src/lib.rt:19:5
 returns-2 : tie.Need-returns-2
 unfolding next
 returns-2 c = search picks
