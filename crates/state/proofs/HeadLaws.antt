@@ -1,0 +1,62 @@
+-- A head that is Ok comes back from its bytes, since each field stands at its own place and fits it.
+use Prim.Native.Nat.{ℕ, _^_, _<_}
+use native.Mathlib.Omega.{arith}
+use mathlib.Core.Path.{_≡_, refl}
+use mathlib.Core.List.{[], _∷_}
+use lib.ListN.{length}
+use Rattle.octets.specs.Bytes.{le, part, field, pack, puts, over}
+use Rattle.octets.proofs.Number.{num-le, top}
+use Rattle.octets.proofs.Region.{Lawful}
+use Rattle.state.specs.declared.Head.{Head}
+use Rattle.state.specs.Layout.{headWidth}
+use Rattle.state.specs.Head.{headBytes, headOf, HeadOk, headCodec, recounted, reissued}
+
+pub head-long : (h : Head) → length (headBytes h) ≡ headWidth
+unfolding headBytes pack le
+head-long h = refl
+
+module _ (h : Head) (ok : HeadOk h) where
+  record Read : Type 0 where
+    pub own : field 0 1 (headBytes h) ≡ h .«own_eid» .0
+    pub tag : field 1 1 (headBytes h) ≡ h .«next_tag»
+    pub seq : field 2 1 (headBytes h) ≡ h .«next_seq»
+    pub counter : field 4 4 (headBytes h) ≡ h .now .counter
+    pub clock : field 8 8 (headBytes h) ≡ h .now .clock
+    pub planned : field 16 8 (headBytes h) ≡ h .«next_timeout»
+    pub issue : field 24 8 (headBytes h) ≡ h .issue
+    pub mtu : field 32 8 (headBytes h) ≡ h .mtu
+
+  read : Read
+  unfolding headBytes pack le part top
+  read = record {
+    own = num-le 1 (h .«own_eid» .0) (ok .own);
+    tag = num-le 1 (h .«next_tag») (omega arith);
+    seq = num-le 1 (h .«next_seq») (omega arith);
+    counter = num-le 4 (h .now .counter) (ok .counter);
+    clock = num-le 8 (h .now .clock) (ok .clock);
+    planned = num-le 8 (h .«next_timeout») (ok .planned);
+    issue = num-le 8 (h .issue) (ok .issue);
+    mtu = num-le 8 (h .mtu) (ok .mtu);
+  }
+
+  pub head-back : headOf (headBytes h) ≡ h
+  unfolding headOf
+  head-back = let r = read in rw (r .own, r .tag, r .seq, r .counter, r .clock, r .planned, r .issue, r .mtu)
+
+pub head-lawful : Lawful headCodec
+head-lawful = record { long = head-long; back = head-back }
+
+-- narrow stores in a head's bytes
+pub counter-bytes : (n : ℕ) (h : Head) → puts 4 ((4, n) ∷ []) (headBytes h) ≡ headBytes (recounted n h)
+unfolding headBytes pack le puts over
+counter-bytes n h = refl
+
+pub counter-ok : (n : ℕ) (h : Head) → n < 2 ^ 32 → HeadOk h → HeadOk (recounted n h)
+counter-ok n h l ok = record { own = ok .own; tag = ok .tag; seq = ok .seq; counter = l; clock = ok .clock; planned = ok .planned; issue = ok .issue; mtu = ok .mtu; soon = ok .soon }
+
+pub issue-bytes : (n : ℕ) (h : Head) → puts 24 ((8, n) ∷ []) (headBytes h) ≡ headBytes (reissued n h)
+unfolding headBytes pack le puts over
+issue-bytes n h = refl
+
+pub issue-ok : (n : ℕ) (h : Head) → n < 2 ^ 64 → HeadOk h → HeadOk (reissued n h)
+issue-ok n h l ok = record { own = ok .own; tag = ok .tag; seq = ok .seq; counter = ok .counter; clock = ok .clock; planned = ok .planned; issue = l; mtu = ok .mtu; soon = ok .soon }

@@ -1,0 +1,6 @@
+-- The laws that callers cite.
+pub mod SlotLaws
+pub mod HeadLaws
+pub mod StackLaws
+pub mod Words
+pub mod Fresh

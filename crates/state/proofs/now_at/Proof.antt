@@ -1,0 +1,27 @@
+-- The last event's stamp stands in the head: its counter at byte 4, its clock at byte 8.
+use denote.Ref.{now}
+use mathlib.Core.Path.{_≡_, ap, _∙_}
+use Rattle.stamp.specs.declared.EventStamp.{EventStamp}
+use Rattle.state.specs.declared.Head.{Head}
+use Rattle.state.specs.Head.{headOf}
+use Rattle.state.proofs.StackLaws.{head-get}
+use borrow.Author.Needs.{needs}
+use Rattle.state.proofs.now_at.Statement.{statement}
+use Rattle.state.proofs.now_at.Tie as tie
+
+get4-requires : tie.Need-get4-requires
+get4-requires c κs = search needs
+
+get8-requires : tie.Need-get8-requires
+get8-requires c κs = search needs
+
+returns : tie.Need-returns
+unfolding headOf
+returns c =
+    let s = c .before .before .before in
+    let b = now (s .args .state) in
+    let e : _≡_ {A = EventStamp} (record { clock = c .get8 .result; counter = c .before .get4 .result }) (headOf b .now) = cc in
+    e ∙ ap (λ (h : Head). h .now) (head-get (s .args .sizes) b)
+
+pub now-at-spec : {M : Type 1} → statement M
+now-at-spec = tie.close (tie.spec get4-requires get8-requires returns)

@@ -1,0 +1,67 @@
+-- What the stack has once, in 40 bytes.
+use Prim.Native.Nat.{ℕ, _+_, _^_, _<_, _≤_}
+use mathlib.Core.List.{List, [], _∷_}
+use Rattle.octets.specs.Bytes.{field, pack}
+use Rattle.octets.specs.Region.{Codec}
+use Rattle.stamp.specs.declared.EventStamp.{EventStamp}
+use Rattle.state.specs.Layout.{headWidth}
+use Rattle.state.specs.declared.Head.{Head}
+
+abbrev pub headRow : Head → List (ℕ × ℕ)
+headRow h =
+    (1, h .«own_eid» .0) ∷ (1, h .«next_tag») ∷ (2, h .«next_seq») ∷ (4, h .now .counter) ∷ (8, h .now .clock) ∷ (8, h .«next_timeout») ∷ (8, h .issue) ∷ (8, h .mtu) ∷ []
+
+unfoldable pub headBytes : Head → List ℕ
+headBytes h = pack (headRow h)
+
+unfoldable pub headOf : List ℕ → Head
+headOf b = record {
+  «own_eid» = record { 0 = field 0 1 b };
+  mtu = field 32 8 b;
+  now = record { clock = field 8 8 b; counter = field 4 4 b };
+  «next_timeout» = field 16 8 b;
+  «next_tag» = field 1 1 b;
+  «next_seq» = field 2 1 b;
+  issue = field 24 8 b;
+}
+
+-- the ranges that a head's fields always have
+pub record HeadOk (h : Head) : Type 0 where
+  pub own : h .«own_eid» .0 < 256
+  pub tag : h .«next_tag» < 8
+  pub seq : h .«next_seq» < 4
+  pub counter : h .now .counter < 2 ^ 32
+  pub clock : h .now .clock < 2 ^ 64
+  pub planned : h .«next_timeout» < 2 ^ 64
+  pub issue : h .issue < 2 ^ 64
+  pub mtu : h .mtu < 2 ^ 64
+  pub soon : h .«next_timeout» ≤ h .now .clock + 100  -- a planned check is at most 100 ms away
+
+abbrev pub headCodec : Codec Head
+headCodec = record { width = headWidth; enc = headBytes; dec = headOf; Ok = HeadOk }
+
+-- the head with one part anew
+abbrev pub renowed : EventStamp → Head → Head
+renowed now h = record {
+  «own_eid» = h .«own_eid»;
+  mtu = h .mtu;
+  now = now;
+  «next_timeout» = h .«next_timeout»;
+  «next_tag» = h .«next_tag»;
+  «next_seq» = h .«next_seq»;
+  issue = h .issue;
+}
+
+abbrev pub recounted : ℕ → Head → Head
+recounted n h = renowed (record { clock = h .now .clock; counter = n }) h
+
+abbrev pub reissued : ℕ → Head → Head
+reissued n h = record {
+  «own_eid» = h .«own_eid»;
+  mtu = h .mtu;
+  now = h .now;
+  «next_timeout» = h .«next_timeout»;
+  «next_tag» = h .«next_tag»;
+  «next_seq» = h .«next_seq»;
+  issue = n;
+}

@@ -1,0 +1,4 @@
+pub mod Layout
+pub mod Head
+pub mod Slot
+pub mod Stack

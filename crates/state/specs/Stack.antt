@@ -1,0 +1,64 @@
+-- The stack that a buffer holds: a head, a list of flow places, a list of slots. `Kept` is the one premise of every call: earlier calls gave these bytes.
+-- `Becomes` says what a store makes: the stack that is then held, and what lies past the state as it was.
+use Prim.Native.Nat.{ℕ, _+_, _*_, _≤_, _<_}
+use mathlib.Core.Path.{_≡_}
+use mathlib.Core.List.{List, _++_}
+use lib.ListN.{length, getD, set, drop}
+use Rattle.octets.specs.Bytes.{part}
+use Rattle.octets.specs.Region.{region, Holds, Regular, bytes}
+use Rattle.flows.specs.declared.Flow.{Flow}
+use Rattle.flows.specs.Codec.{flowCodec}
+use Rattle.flows.specs.Table.{noFlow}
+use Rattle.reassemble.specs.declared.Reassembler.{Reassembler}
+use Rattle.reassemble.specs.Slot.{blankSlot}
+use Rattle.state.specs.declared.Sizes.{Sizes}
+use Rattle.state.specs.declared.Head.{Head}
+use Rattle.state.specs.Layout.{headWidth, flowCount, flowsAt, slotsAt, size, SizesOk}
+use Rattle.state.specs.Head.{headCodec, headBytes, headOf}
+use Rattle.state.specs.Slot.{slotCodec}
+
+pub record Stack : Type 0 where
+  pub head : Head
+  pub flows : List Flow
+  pub slots : List Reassembler
+
+-- what the bytes say
+unfoldable pub stackOf : Sizes → List ℕ → Stack
+stackOf z b = record {
+  head = headOf (part 0 headWidth b);
+  flows = region flowCodec flowCount flowsAt b;
+  slots = region (slotCodec (z .body)) (z .slots) slotsAt b;
+}
+
+-- the bytes of a stack
+unfoldable pub encode : Stack → List ℕ
+encode st = headBytes (st .head) ++ (bytes flowCodec (st .flows) ++ bytes (slotCodec 0) (st .slots))
+
+-- earlier calls gave these bytes: each part is the bytes of a record whose fields have their ranges
+pub record Kept (z : Sizes) (b : List ℕ) : Type 0 where
+  pub sizes : SizesOk z
+  pub long : size z ≤ length b
+  pub head : Holds headCodec 0 b
+  pub flows : Regular flowCodec flowCount flowsAt b
+  pub slots : Regular (slotCodec (z .body)) (z .slots) slotsAt b
+
+-- from b comes b′, which holds st; what lies past the state stays
+pub record Becomes (z : Sizes) (b b′ : List ℕ) (st : Stack) : Type 0 where
+  pub view : stackOf z b′ ≡ st
+  pub kept : Kept z b′
+  pub rest : drop (size z) b′ ≡ drop (size z) b
+
+abbrev pub rehead : Head → Stack → Stack
+rehead h st = record { head = h; flows = st .flows; slots = st .slots }
+
+abbrev pub reflow : ℕ → Flow → Stack → Stack
+reflow i f st = record { head = st .head; flows = set (st .flows) i f; slots = st .slots }
+
+abbrev pub reslot : ℕ → Reassembler → Stack → Stack
+reslot i s st = record { head = st .head; flows = st .flows; slots = set (st .slots) i s }
+
+abbrev pub slotAt : ℕ → Stack → Reassembler
+slotAt i st = getD (st .slots) i blankSlot
+
+abbrev pub flowAt : ℕ → Stack → Flow
+flowAt i st = getD (st .flows) i noFlow

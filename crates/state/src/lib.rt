@@ -1,0 +1,419 @@
+// The stack's state, kept in bytes that the caller lends: where each part lies, its codec, and its accessors. Nothing above opens a byte.
+// A head of 40 bytes, 64 flow places of 32, then the slots of 40, last, so that their number moves no offset.
+// Leans on `octets` for numbers in bytes and blocks, on `flows` and `reassemble` for the records. Definitions: specs/Layout.antt, Head.antt, Slot.antt, Stack.antt.
+ghost use mathlib.Core.Path.{_≡_};
+ghost use mathlib.Core.List.{_∷_, [], _++_};
+ghost use Prim.Native.Nat.{_≤_, _<_, _^_};
+ghost use lib.ListN.{length, replicate, drop};
+ghost use Rattle.octets.specs.Bytes.{puts};
+ghost use Rattle.flows.specs.Codec.{FlowOk, flowWord};
+ghost use Rattle.state.specs.Layout.{headWidth, slotWidth, flowCount};
+ghost use Rattle.state.specs.Head.{headOf, headBytes, HeadOk, recounted, reissued};
+ghost use Rattle.state.specs.Slot.{stateNo, issueNo, stateFrom, ownerTag, slotOf, slotBytes, leadRow, restRow, progressRow, SlotOk, progress, keyWord};
+ghost use Rattle.state.specs.Stack.{Kept, Becomes, stackOf, slotAt, flowAt, reslot, reflow, rehead};
+use flows::Flow;
+use mctp::Cookie;
+use mctp::Eid;
+use mctp::Key;
+use mctp::TagValue;
+use octets::get1;
+use octets::get2;
+use octets::get4;
+use octets::get8;
+use octets::put1;
+use octets::put2;
+use octets::put4;
+use octets::put8;
+use reassemble::Reassembler;
+use reassemble::State;
+use stamp::EventStamp;
+
+const HEAD_WIDTH: usize = 40;
+
+const FLOW_WIDTH: usize = 32;
+
+const SLOT_WIDTH: usize = 40;
+
+pub const FLOW_COUNT: usize = 64;
+
+const FLOWS_AT: usize = HEAD_WIDTH;
+
+const SLOTS_AT: usize = FLOWS_AT + FLOW_WIDTH * FLOW_COUNT;
+
+// How many slots a stack has, and how many bytes a body may hold.
+pub struct Sizes {
+    pub slots: usize,
+    pub body: usize,
+}
+
+impl Sizes {
+    // The board's sizes.
+    pub const BOARD: Sizes = Sizes {
+        slots: 4,
+        body: 1032,
+    };
+}
+
+// What the stack has once.
+pub struct Head {
+    pub own_eid: Eid,
+    pub mtu: usize,
+    pub now: EventStamp,
+    pub next_timeout: u64,
+    pub next_tag: u8,
+    pub next_seq: u8,
+    pub issue: u64,
+}
+
+// ---- a head in 40 bytes
+
+pub fn read_head(b: &[u8]) -> Head
+    requires { ⌜ headWidth ≤ length (now b) ⌝ }
+    ensures { λ r. ⌜ r ≡ headOf (now (b .entry)) ⌝ }
+{
+    let own = Eid(get1(b, 0));
+    let tag = get1(b, 1);
+    let seq = get1(b, 2);
+    let counter = get4(b, 4);
+    let clock = get8(b, 8);
+    let planned = get8(b, 16);
+    let issue = get8(b, 24);
+    let mtu = get8(b, 32);
+    let stamp = EventStamp {
+        clock: clock,
+        counter: counter,
+    };
+    Head {
+        own_eid: own,
+        mtu: mtu as usize,
+        now: stamp,
+        next_timeout: planned,
+        next_tag: tag,
+        next_seq: seq,
+        issue: issue,
+    }
+}
+
+fn write_head(b: &mut [u8], h: Head)
+    requires { ⌜ length (now b) ≡ headWidth ⌝ }
+    ensures { λ _. ⌜ now (b .exit) ≡ headBytes h ⌝ }
+{
+    put1(b, 0, h.own_eid.0);
+    put1(b, 1, h.next_tag);
+    put2(b, 2, h.next_seq as u16);
+    put4(b, 4, h.now.counter);
+    put8(b, 8, h.now.clock);
+    put8(b, 16, h.next_timeout);
+    put8(b, 24, h.issue);
+    put8(b, 32, h.mtu as u64);
+}
+
+// ---- a slot in 40 bytes
+
+fn state_no(s: State) -> u8
+    ensures { λ r. ⌜ r ≡ stateNo s ⌝ }
+{
+    match s {
+        State::Empty => 0,
+        State::Collecting => 1,
+        State::Done => 2,
+        State::HandleOut(_) => 3,
+    }
+}
+
+fn issue_no(s: State) -> u64
+    ensures { λ r. ⌜ r ≡ issueNo s ⌝ }
+{
+    match s {
+        State::Empty => 0,
+        State::Collecting => 0,
+        State::Done => 0,
+        State::HandleOut(n) => n,
+    }
+}
+
+fn state_from(n: u8, issue: u64) -> State
+    ensures { λ r. ⌜ r ≡ stateFrom n issue ⌝ }
+{
+    if n == 1 {
+        return State::Collecting;
+    }
+    if n == 2 {
+        return State::Done;
+    }
+    if n == 3 {
+        return State::HandleOut(issue);
+    }
+    State::Empty
+}
+
+fn owner_tag(key: Key) -> u8
+    requires { ⌜ key .tag .0 < 8 ⌝ }
+    ensures { λ r. ⌜ r ≡ ownerTag key ⌝ }
+{
+    mctp::bit_of(key.owner, 8) + key.tag.0
+}
+
+pub fn read_slot(b: &[u8]) -> Reassembler
+    requires { ⌜ slotWidth ≤ length (now b) ⌝ }
+    ensures { λ r. ⌜ r ≡ slotOf (now (b .entry)) ⌝ }
+{
+    let n = get1(b, 0);
+    let dest = Eid(get1(b, 1));
+    let source = Eid(get1(b, 2));
+    let o = get1(b, 3);
+    let kind = get1(b, 4);
+    let seq = get1(b, 5);
+    let len = get2(b, 6);
+    let counter = get4(b, 8);
+    let has = get1(b, 12);
+    let clock = get8(b, 16);
+    let value = get8(b, 24);
+    let issue = get8(b, 32);
+    let state = state_from(n, issue);
+    let cookie = Cookie::of(has, value);
+    let tag = TagValue(o % 8);
+    let key = Key {
+        source: source,
+        dest: dest,
+        owner: o / 8 == 1,
+        tag: tag,
+    };
+    let t = mctp::decode_type_ic(kind);
+    let typ = t.typ;
+    let ic = t.ic;
+    let stamp = EventStamp {
+        clock: clock,
+        counter: counter,
+    };
+    Reassembler {
+        state: state,
+        key: key,
+        typ: typ,
+        ic: ic,
+        next_seq: seq,
+        len: len as usize,
+        cookie: cookie,
+        stamp: stamp,
+    }
+}
+
+fn write_lead(b: &mut [u8], state: u8, dest: u8, source: u8, from: u8, kind: u8, seq: u8, len: u16)
+    requires { ⌜ length (now b) ≡ slotWidth ⌝ }
+    ensures { λ _. ⌜ now (b .exit) ≡ puts 0 (leadRow state dest source from kind seq len) (now (b .entry)) ⌝ }
+{
+    put1(b, 0, state);
+    put1(b, 1, dest);
+    put1(b, 2, source);
+    put1(b, 3, from);
+    put1(b, 4, kind);
+    put1(b, 5, seq);
+    put2(b, 6, len);
+}
+
+fn write_rest(b: &mut [u8], counter: u32, has: u32, clock: u64, value: u64, issue: u64)
+    requires { ⌜ length (now b) ≡ slotWidth ⌝ }
+    ensures { λ _. ⌜ now (b .exit) ≡ puts 8 (restRow counter has clock value issue) (now (b .entry)) ⌝ }
+{
+    put4(b, 8, counter);
+    put4(b, 12, has);
+    put8(b, 16, clock);
+    put8(b, 24, value);
+    put8(b, 32, issue);
+}
+
+pub fn write_slot(b: &mut [u8], s: Reassembler)
+    requires { ⌜ (length (now b) ≡ slotWidth) × (s .key .tag .0 < 8) × (s .len < 2 ^ 16) ⌝ }
+    ensures { λ _. ⌜ now (b .exit) ≡ slotBytes s ⌝ }
+{
+    let state = s.state;
+    let c = s.cookie;
+    let k = s.key;
+    let t = s.stamp;
+    let kind = mctp::encode_type_ic(s.typ, s.ic);
+    write_lead(
+        b,
+        state_no(state),
+        k.dest.0,
+        k.source.0,
+        owner_tag(k),
+        kind,
+        s.next_seq,
+        s.len as u16,
+    );
+    write_rest(
+        b,
+        t.counter,
+        c.present() as u32,
+        t.clock,
+        c.value(),
+        issue_no(state),
+    );
+}
+
+fn write_progress(b: &mut [u8], seq: u8, len: u16)
+    requires { ⌜ length (now b) ≡ slotWidth ⌝ }
+    ensures { λ _. ⌜ now (b .exit) ≡ puts 5 (progressRow seq len) (now (b .entry)) ⌝ }
+{
+    put1(b, 5, seq);
+    put2(b, 6, len);
+}
+
+// ---- the state
+
+pub fn head_at(state: &[u8], sizes: Sizes) -> Head
+    requires { ⌜ Kept sizes (now state) ⌝ }
+    ensures { λ r. ⌜ (r ≡ stackOf sizes (now (state .entry)) .head) × HeadOk r ⌝ }
+{
+    read_head(state)
+}
+
+pub fn put_head(state: &mut [u8], sizes: Sizes, h: Head)
+    requires { ⌜ Kept sizes (now state) × HeadOk h ⌝ }
+    ensures { λ _. ⌜ Becomes sizes (now (state .entry)) (now (state .exit)) (rehead h (stackOf sizes (now (state .entry)))) ⌝ }
+{
+    let at = 0;
+    let end = at + HEAD_WIDTH;
+    write_head(&mut state[at..end], h);
+}
+
+pub fn own_eid(state: &[u8], sizes: Sizes) -> Eid
+    requires { ⌜ Kept sizes (now state) ⌝ }
+    ensures { λ r. ⌜ r ≡ stackOf sizes (now (state .entry)) .head .«own_eid» ⌝ }
+{
+    Eid(get1(state, 0))
+}
+
+pub fn now_at(state: &[u8], sizes: Sizes) -> EventStamp
+    requires { ⌜ Kept sizes (now state) ⌝ }
+    ensures { λ r. ⌜ r ≡ stackOf sizes (now (state .entry)) .head .now ⌝ }
+{
+    let counter = get4(state, 4);
+    let clock = get8(state, 8);
+    EventStamp {
+        clock: clock,
+        counter: counter,
+    }
+}
+
+// The last event's counter, at the same clock.
+pub fn put_counter(state: &mut [u8], sizes: Sizes, counter: u32)
+    requires { ⌜ Kept sizes (now state) ⌝ }
+    ensures { λ _. ⌜ Becomes sizes (now (state .entry)) (now (state .exit)) (rehead (recounted counter (stackOf sizes (now (state .entry)) .head)) (stackOf sizes (now (state .entry)))) ⌝ }
+{
+    let at = 0;
+    let end = at + HEAD_WIDTH;
+    write_counter(&mut state[at..end], counter);
+}
+
+fn write_counter(b: &mut [u8], counter: u32)
+    requires { ⌜ length (now b) ≡ headWidth ⌝ }
+    ensures { λ _. ⌜ now (b .exit) ≡ puts 4 ((4, counter) ∷ []) (now (b .entry)) ⌝ }
+{
+    put4(b, 4, counter);
+}
+
+pub fn issue_at(state: &[u8], sizes: Sizes) -> u64
+    requires { ⌜ Kept sizes (now state) ⌝ }
+    ensures { λ r. ⌜ r ≡ stackOf sizes (now (state .entry)) .head .issue ⌝ }
+{
+    get8(state, 24)
+}
+
+pub fn put_issue(state: &mut [u8], sizes: Sizes, issue: u64)
+    requires { ⌜ Kept sizes (now state) ⌝ }
+    ensures { λ _. ⌜ Becomes sizes (now (state .entry)) (now (state .exit)) (rehead (reissued issue (stackOf sizes (now (state .entry)) .head)) (stackOf sizes (now (state .entry)))) ⌝ }
+{
+    let at = 0;
+    let end = at + HEAD_WIDTH;
+    write_issue(&mut state[at..end], issue);
+}
+
+fn write_issue(b: &mut [u8], issue: u64)
+    requires { ⌜ length (now b) ≡ headWidth ⌝ }
+    ensures { λ _. ⌜ now (b .exit) ≡ puts 24 ((8, issue) ∷ []) (now (b .entry)) ⌝ }
+{
+    put8(b, 24, issue);
+}
+
+pub fn slot_at(state: &[u8], sizes: Sizes, i: usize) -> Reassembler
+    requires { ⌜ Kept sizes (now state) × (i < sizes .slots) ⌝ }
+    ensures { λ r. ⌜ (r ≡ slotAt i (stackOf sizes (now (state .entry)))) × SlotOk (sizes .body) r ⌝ }
+{
+    let at = SLOTS_AT + SLOT_WIDTH * i;
+    let end = at + SLOT_WIDTH;
+    read_slot(&state[at..end])
+}
+
+pub fn put_slot(state: &mut [u8], sizes: Sizes, i: usize, s: Reassembler)
+    requires { ⌜ Kept sizes (now state) × (i < sizes .slots) × SlotOk (sizes .body) s ⌝ }
+    ensures { λ _. ⌜ Becomes sizes (now (state .entry)) (now (state .exit)) (reslot i s (stackOf sizes (now (state .entry)))) ⌝ }
+{
+    let at = SLOTS_AT + SLOT_WIDTH * i;
+    let end = at + SLOT_WIDTH;
+    write_slot(&mut state[at..end], s);
+}
+
+// A slot that goes on collecting: sequence and length alone.
+pub fn put_progress(state: &mut [u8], sizes: Sizes, i: usize, seq: u8, len: usize)
+    requires { ⌜ Kept sizes (now state) × (i < sizes .slots) × (seq < 4) × (len ≤ sizes .body) ⌝ }
+    ensures { λ _. ⌜ Becomes sizes (now (state .entry)) (now (state .exit)) (reslot i (progress seq len (slotAt i (stackOf sizes (now (state .entry))))) (stackOf sizes (now (state .entry)))) ⌝ }
+{
+    let at = SLOTS_AT + SLOT_WIDTH * i;
+    let end = at + SLOT_WIDTH;
+    write_progress(&mut state[at..end], seq, len as u16);
+}
+
+// A slot's state and key as one number, in wire order.
+pub fn word_at(state: &[u8], sizes: Sizes, i: usize) -> u32
+    requires { ⌜ Kept sizes (now state) × (i < sizes .slots) ⌝ }
+    ensures { λ r. ⌜ r ≡ keyWord (slotAt i (stackOf sizes (now (state .entry)))) ⌝ }
+{
+    get4(state, SLOTS_AT + SLOT_WIDTH * i)
+}
+
+// A slot's state alone, as its number.
+pub fn state_at(state: &[u8], sizes: Sizes, i: usize) -> u8
+    requires { ⌜ Kept sizes (now state) × (i < sizes .slots) ⌝ }
+    ensures { λ r. ⌜ r ≡ stateNo (slotAt i (stackOf sizes (now (state .entry))) .state) ⌝ }
+{
+    get1(state, SLOTS_AT + SLOT_WIDTH * i)
+}
+
+pub fn flow_at(state: &[u8], sizes: Sizes, i: usize) -> Flow
+    requires { ⌜ Kept sizes (now state) × (i < flowCount) ⌝ }
+    ensures { λ r. ⌜ (r ≡ flowAt i (stackOf sizes (now (state .entry)))) × FlowOk r ⌝ }
+{
+    let at = FLOWS_AT + FLOW_WIDTH * i;
+    let end = at + FLOW_WIDTH;
+    flows::read_flow(&state[at..end])
+}
+
+pub fn put_flow(state: &mut [u8], sizes: Sizes, i: usize, f: Flow)
+    requires { ⌜ Kept sizes (now state) × (i < flowCount) × FlowOk f ⌝ }
+    ensures { λ _. ⌜ Becomes sizes (now (state .entry)) (now (state .exit)) (reflow i f (stackOf sizes (now (state .entry)))) ⌝ }
+{
+    let at = FLOWS_AT + FLOW_WIDTH * i;
+    let end = at + FLOW_WIDTH;
+    flows::write_flow(&mut state[at..end], f);
+}
+
+// Whether a place is used, its peer and its tag as one number.
+pub fn flow_word_at(state: &[u8], sizes: Sizes, i: usize) -> u32
+    requires { ⌜ Kept sizes (now state) × (i < flowCount) ⌝ }
+    ensures { λ r. ⌜ r ≡ flowWord (flowAt i (stackOf sizes (now (state .entry)))) ⌝ }
+{
+    get4(state, FLOWS_AT + FLOW_WIDTH * i)
+}
+
+// Zeros over the first `n` bytes: a state that is all zeros is a fresh one.
+pub fn clear(b: &mut [u8], n: usize)
+    requires { ⌜ n ≤ length (now b) ⌝ }
+    ensures { λ _. ⌜ now (b .exit) ≡ replicate n 0 ++ drop n (now (b .entry)) ⌝ }
+{
+    let mut i = 0;
+    while i < n {
+        b[i] = 0;
+        i += 1;
+    }
+}
