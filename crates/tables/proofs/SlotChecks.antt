@@ -1,11 +1,11 @@
 -- A check of time, and a cancel's walk, one slot at a time: what slot i makes, and what is then left.
 use Prim.Native.Nat.{ℕ}
-use mathlib.Core.Path.{_≡_, refl, sym, ap, _∙_}
-use mathlib.Core.Bool.{Bool, true, false}
+use mathlib.Core.Path.{_≡_, sym, ap, _∙_}
+use mathlib.Core.Bool.{true, false}
 use mathlib.Core.List.{List, [], _∷_, map}
 use lib.ListN.{getD}
 use Rattle.octets.specs.Pick.{pick, pick-true, pick-false}
-use Rattle.octets.proofs.Bools.{false-true}
+use Rattle.octets.proofs.Bools.{false-true, bool-cases}
 use Rattle.mctp.specs.declared.Eid.{Eid}
 use Rattle.mctp.specs.declared.TagValue.{TagValue}
 use Rattle.stamp.specs.declared.Timeout.{Timeout}
@@ -63,25 +63,17 @@ module _ (peer : Eid) (tag : TagValue) (s : Reassembler) where
   passes r = (rw r, rw r)
 
 -- the walk goes on, or stops
-goes : (r h : Bool) (s : Reassembler) (t u : List Reassembler) (v : Bool) → pick r (pick h true false) false ≡ false
-    → (pick r (pick h (s ∷ t) (blankSlot ∷ u)) (s ∷ u) ≡ getD (pick r (pick h (s ∷ []) (blankSlot ∷ [])) (s ∷ [])) 0 blankSlot ∷ u) × (pick r (pick h true v) v ≡ v)
-unfolding pick
-goes true true s t u v e = false-true (sym e)
-goes true false s t u v e = (refl, refl)
-goes false h s t u v e = (refl, refl)
-
-halts : (r h : Bool) (s : Reassembler) (t u : List Reassembler) (v : Bool) → pick r (pick h true false) false ≡ true
-    → (pick r (pick h (s ∷ t) (blankSlot ∷ u)) (s ∷ u) ≡ s ∷ t) × ((pick r (pick h true v) v ≡ true) × (getD (pick r (pick h (s ∷ []) (blankSlot ∷ [])) (s ∷ [])) 0 blankSlot ≡ s))
-unfolding pick
-halts true true s t u v e = (refl, (refl, refl))
-halts true false s t u v e = false-true e
-halts false h s t u v e = false-true e
-
 module _ (peer : Eid) (tag : TagValue) (s : Reassembler) (t : List Reassembler) where
   pub sweep-on : blocked peer tag (s ∷ []) ≡ false → (swept peer tag (s ∷ t) ≡ sweptSlot peer tag s ∷ swept peer tag t) × (blocked peer tag (s ∷ t) ≡ blocked peer tag t)
-  unfolding swept blocked
-  sweep-on e = goes (isReply peer tag s) (handleTaken s) s t (swept peer tag t) (blocked peer tag t) e
+  unfolding swept blocked pick
+  sweep-on e =
+      bool-cases (isReply peer tag s)
+      (λ r. bool-cases (handleTaken s) (λ h. false-true (sym (stops peer tag s r h .0 ∙ e))) (λ h. (rw (r, h), rw (r, h))))
+      (λ r. (rw r, rw r))
 
   pub sweep-off : blocked peer tag (s ∷ []) ≡ true → (swept peer tag (s ∷ t) ≡ s ∷ t) × ((blocked peer tag (s ∷ t) ≡ true) × (sweptSlot peer tag s ≡ s))
-  unfolding swept blocked
-  sweep-off e = halts (isReply peer tag s) (handleTaken s) s t (swept peer tag t) (blocked peer tag t) e
+  unfolding swept blocked pick
+  sweep-off e =
+      bool-cases (isReply peer tag s)
+      (λ r. bool-cases (handleTaken s) (λ h. (rw (r, h), (rw (r, h), rw (r, h)))) (λ h. false-true (frees peer tag s r h .0 ∙ e)))
+      (λ r. false-true (passes peer tag s r .0 ∙ e))

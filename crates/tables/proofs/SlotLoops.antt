@@ -4,7 +4,7 @@ use native.Mathlib.Numerals.{add-one}
 use native.Mathlib.Omega.{arith}
 use mathlib.Core.Path.{_≡_, refl, sym, ap, subst, _∙_}
 use mathlib.Core.List.{List, [], _∷_, _++_}
-use lib.ListN.{length, getD, set, take, drop, take-append-drop, drop-of-length-le, length-drop}
+use lib.ListN.{length, set, take, drop, take-append-drop, drop-of-length-le, length-drop}
 use lib.Seq.{drop-cons, take-suc-set, drop-set-lt, append-snoc, set-getD}
 use Rattle.reassemble.specs.declared.Reassembler.{Reassembler}
 use Rattle.reassemble.specs.Slot.{blankSlot}

@@ -1,23 +1,36 @@
--- A walk downward over the slots for the earliest one that passes a test f: what is known on the way, for any f.
+-- Walks over the slots for the first one that passes a test (upward), and for the earliest (downward): what is known on the way, for any test.
 use Prim.Native.Nat.{ℕ, zero, suc, _+_, _-_, _≤_, _<_}
 use native.Mathlib.Nat.{zero-add}
 use native.Mathlib.Omega.{arith}
-use mathlib.Core.Path.{_≡_, refl, sym, ap, _∙_}
+use mathlib.Core.Path.{_≡_, sym, ap, _∙_}
 use mathlib.Core.Bool.{Bool, true, false}
 use mathlib.Core.List.{List}
 use lib.Dec.{ltb}
 use lib.ListN.{length, drop, length-drop}
 use borrow.Author.Tests.{lt-ltb, le-ltb}
 use Rattle.octets.specs.Pick.{pick, pick-true, pick-false}
+use Rattle.octets.specs.Find.{find}
+use Rattle.octets.proofs.Finds.{here, next, none}
 use Rattle.stamp.specs.Stamp.{earlier}
 use Rattle.reassemble.specs.declared.Reassembler.{Reassembler}
-use Rattle.reassemble.specs.Slot.{isDone}
+use Rattle.reassemble.specs.Slot.{isDone, blankSlot}
 use Rattle.reassemble.specs.Search.{earliest}
 use Rattle.reassemble.proofs.Searches.{earliest-bound, earliest-end, earliest-down}
 use Rattle.state.specs.declared.Sizes.{Sizes}
 use Rattle.state.specs.Stack.{stackOf, slotAt}
 use Rattle.state.proofs.StackLaws.{slots-length}
 use Rattle.tables.specs.Walks.{betterOf}
+
+-- the first slot that passes p; no slot before i does
+module _ (z : Sizes) (b : List ℕ) (p : Reassembler → Bool) (i : ℕ) (h : i ≤ find p (stackOf z b .slots)) where
+  pub find-here : i < z .slots → p (slotAt i (stackOf z b)) ≡ true → (i ≡ find p (stackOf z b .slots)) × (i ≤ z .slots)
+  find-here m e = (here p (stackOf z b .slots) i blankSlot h (rw (slots-length z b) m) e, omega arith)
+
+  pub find-on : i < z .slots → p (slotAt i (stackOf z b)) ≡ false → (i + 1 ≤ z .slots) × (i + 1 ≤ find p (stackOf z b .slots))
+  find-on m e = (omega arith, next p (stackOf z b .slots) i blankSlot h (rw (slots-length z b) m) e)
+
+  pub find-end : i ≤ z .slots → z .slots ≤ i → (i ≡ find p (stackOf z b .slots)) × (i ≤ z .slots)
+  find-end w m = (none p (stackOf z b .slots) i h (rw (slots-length z b) m), w)
 
 -- of slot i, read as t, and slot j, read as s: what `better` picks
 module _ (z : Sizes) (b : List ℕ) (i j : ℕ) where

@@ -38,10 +38,9 @@ put-flow-requires c κs =
     let n = c .before .before .before .before .before .before .before .counted in
     let f = c .before .new-flow in
     let a = s .args in
-    let st = stackOf (a .sizes) (now (a .state)) in
     let h = head-ok (a .sizes) (now (a .state)) (s .pre .0) in
-    let clock : n .result .clock < 2 ^ 64 = rw (n .ensures .0) (rw (counted-clock (a .expires) (st .head .now)) (h .clock)) in
-    let counter : n .result .counter < 2 ^ 32 = rw (n .ensures .0) (counted-counter (a .expires) (st .head .now) (h .counter)) in
+    let clock : n .result .clock < 2 ^ 64 = rw (n .ensures .0, counted-clock) (h .clock) in
+    let counter : n .result .counter < 2 ^ 32 = rw (n .ensures .0) (counted-counter _ _ (h .counter)) in
     let ok = new-ok (a .peer) (a .tag) (a .expires) (a .cookie) (n .result) (omega (arith, s .good .1 .1 .0)) (s .pre .1) (cookie-fits (a .cookie) (s .good .1 .1 .1 .1 .1 .0)) clock counter in
     (n .ensures .1 .kept, search needs, subst (λ (x : Flow). FlowOk x) (sym (f .ensures)) ok)
 

@@ -1,5 +1,5 @@
 -- `better` picks as the definition does: slot reads give the two stamps.
-use mathlib.Core.Path.{_≡_, sym, _∙_}
+use mathlib.Core.Path.{sym, _∙_}
 use denote.Ref.{now}
 use Rattle.tables.proofs.SlotSearch.{better-none, better-keeps, better-takes}
 use borrow.Author.Needs.{needs}

@@ -1,6 +1,6 @@
 -- `earliest_from` walks downward: `best` is the earliest of the slots from `i` on that pass.
 use denote.Ref.{now}
-use mathlib.Core.Path.{_≡_, sym, _∙_}
+use mathlib.Core.Path.{sym, _∙_}
 use borrow.Author.Needs.{needs}
 use Rattle.reassemble.specs.Slot.{keptUnder}
 use Rattle.tables.proofs.SlotSearch.{Seen, seen-bound, seen-start, seen-takes, seen-fails, seen-open, seen-done}

@@ -1,6 +1,6 @@
 -- `earliest_listed` walks downward: `best` is the earliest of the slots from `i` on that pass.
 use denote.Ref.{now}
-use mathlib.Core.Path.{_≡_, sym, _∙_}
+use mathlib.Core.Path.{sym, _∙_}
 use borrow.Author.Needs.{needs}
 use Prim.Native.Nat.{ℕ}
 use mathlib.Core.Bool.{Bool}

@@ -1,10 +1,10 @@
 -- `expire_slot` asks the slot's time once: expired, the slot is blank, else as it was.
-use mathlib.Core.Path.{_≡_, sym, ap, subst, _∙_}
+use mathlib.Core.Path.{sym, ap, subst, _∙_}
 use denote.Ref.{now}
 use Rattle.stamp.specs.declared.Timeout.{Timeout}
 use Rattle.stamp.specs.Stamp.{isExpired, soonerOf}
 use Rattle.reassemble.specs.declared.Reassembler.{Reassembler}
-use Rattle.reassemble.specs.Slot.{blankSlot, slotTimeout, fadedSlot}
+use Rattle.reassemble.specs.Slot.{slotTimeout, fadedSlot}
 use Rattle.state.specs.Slot.{SlotOk}
 use Rattle.state.specs.Stack.{stackOf, slotAt}
 use Rattle.tables.proofs.SlotLoops.{slot-is, same-slot, blank-ok}

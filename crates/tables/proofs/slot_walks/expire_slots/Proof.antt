@@ -1,6 +1,5 @@
 -- `expire_slots` walks upward: what is ahead of `i` fades as from the start, and the check of it goes on from what was found.
 use Prim.Native.Nat.{_-_, suc}
-use native.Mathlib.Omega.{arith}
 use mathlib.Core.Path.{_≡_, refl, sym, ap, _∙_}
 use mathlib.Core.List.{List, map}
 use lib.ListN.{drop}

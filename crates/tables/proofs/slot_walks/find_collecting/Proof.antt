@@ -1,8 +1,8 @@
 -- `find_collecting` looks for the number of its key: a slot has it just where it collects under the key.
 use mathlib.Core.Path.{_≡_, ap, _∙_}
 use mathlib.Core.List.{List}
-use Prim.Native.Nat.{ℕ, _<_}
-use lib.ListN.{length, getD}
+use Prim.Native.Nat.{ℕ}
+use lib.ListN.{getD}
 use denote.Ref.{now}
 use Rattle.octets.specs.Find.{find}
 use Rattle.octets.proofs.Finds.{find-ext}

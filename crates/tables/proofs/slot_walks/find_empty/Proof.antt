@@ -1,16 +1,14 @@
 -- `find_empty` walks upward: no slot before `i` is empty.
-use Prim.Native.Nat.{_≤_, _-_, _+_}
-use native.Mathlib.Omega.{arith}
-use mathlib.Core.Path.{_≡_, sym, _∙_}
+use Prim.Native.Nat.{_≤_, _-_}
+use mathlib.Core.Path.{sym, _∙_}
 use denote.Ref.{now}
 use borrow.Author.Needs.{needs}
 use borrow.Author.Tests.{eq-eqb, ne-eqb}
 use Rattle.octets.specs.Find.{find}
-use Rattle.octets.proofs.Finds.{here, next, none}
-use Rattle.reassemble.specs.Slot.{blankSlot, isEmpty}
+use Rattle.reassemble.specs.Slot.{isEmpty}
 use Rattle.state.specs.Stack.{stackOf, slotAt}
-use Rattle.state.proofs.StackLaws.{slots-length}
 use Rattle.state.proofs.Words.{state-empty}
+use Rattle.tables.proofs.SlotSearch.{find-here, find-on, find-end}
 use Rattle.tables.proofs.slot_walks.find_empty.Statement.{statement}
 use Rattle.tables.proofs.slot_walks.find_empty.Tie as tie
 
@@ -29,12 +27,8 @@ state-at-requires c κs = (c .before .before .before .pre, search needs)
 returns : tie.Need-returns Inv-loop μ-loop
 returns c =
     let s = c .before .before .before .before .before in
-    let b = now (s .args .state) in
-    let z = s .args .sizes in
-    let i = c .before .before .before .loop .i in
-    let l = slots-length z b in
-    let e = sym (state-empty (slotAt i (stackOf z b))) ∙ eq-eqb _ 0 (sym (c .before .state-at .ensures) ∙ c .if1 .taken) in
-    (here isEmpty (stackOf z b .slots) i blankSlot (c .before .before .before .loop .inv .1) (omega arith) e, search needs)
+    let l = c .before .before .before .loop in
+    find-here (s .args .sizes) (now (s .args .state)) isEmpty (l .i) (l .inv .1) (c .before .before .loop-test .taken) (sym (state-empty (slotAt (l .i) (stackOf (s .args .sizes) (now (s .args .state))))) ∙ eq-eqb _ 0 (sym (c .before .state-at .ensures) ∙ c .if1 .taken))
 
 add-i : tie.Need-add-i Inv-loop μ-loop
 add-i c = search needs
@@ -45,20 +39,14 @@ loop-less c = search needs
 loop-again : tie.Need-loop-again Inv-loop μ-loop
 loop-again c =
     let s = c .before .before .before .before .before in
-    let b = now (s .args .state) in
-    let z = s .args .sizes in
-    let i = c .before .before .before .loop .i in
-    let l = slots-length z b in
-    let e = sym (state-empty (slotAt i (stackOf z b))) ∙ ne-eqb _ 0 (λ h. c .if1 .left (c .before .state-at .ensures ∙ h)) in
-    (search needs, next isEmpty (stackOf z b .slots) i blankSlot (c .before .before .before .loop .inv .1) (omega arith) e)
+    let l = c .before .before .before .loop in
+    find-on (s .args .sizes) (now (s .args .state)) isEmpty (l .i) (l .inv .1) (c .before .before .loop-test .taken) (sym (state-empty (slotAt (l .i) (stackOf (s .args .sizes) (now (s .args .state))))) ∙ ne-eqb _ 0 (λ h. c .if1 .left (c .before .state-at .ensures ∙ h)))
 
 returns-2 : tie.Need-returns-2 Inv-loop μ-loop
 returns-2 c =
     let s = c .before .before .before in
-    let b = now (s .args .state) in
-    let z = s .args .sizes in
-    let l = slots-length z b in
-    (none isEmpty (stackOf z b .slots) (c .before .loop .i) (c .before .loop .inv .1) (omega arith), search needs)
+    let l = c .before .loop in
+    find-end (s .args .sizes) (now (s .args .state)) isEmpty (l .i) (l .inv .1) (l .inv .0) (c .loop-test .left)
 
 pub find-empty-spec : {M : Type 1} → statement M
 find-empty-spec =

@@ -1,16 +1,13 @@
 -- `find_word` walks upward: no slot before `i` has the number.
-use Prim.Native.Nat.{_≤_, _-_, _+_}
-use native.Mathlib.Omega.{arith}
-use mathlib.Core.Path.{_≡_, sym, _∙_}
+use Prim.Native.Nat.{_≤_, _-_}
+use mathlib.Core.Path.{sym, _∙_}
 use denote.Ref.{now}
 use borrow.Author.Needs.{needs}
 use borrow.Author.Tests.{eq-eqb, ne-eqb}
 use Rattle.octets.specs.Find.{find}
-use Rattle.octets.proofs.Finds.{here, next, none}
-use Rattle.reassemble.specs.Slot.{blankSlot}
 use Rattle.state.specs.Stack.{stackOf}
-use Rattle.state.proofs.StackLaws.{slots-length}
 use Rattle.tables.specs.Walks.{hasWord}
+use Rattle.tables.proofs.SlotSearch.{find-here, find-on, find-end}
 use Rattle.tables.proofs.slot_walks.find_word.Statement.{statement}
 use Rattle.tables.proofs.slot_walks.find_word.Tie as tie
 
@@ -29,13 +26,8 @@ word-at-requires c κs = (c .before .before .before .pre, search needs)
 returns : tie.Need-returns Inv-loop μ-loop
 returns c =
     let s = c .before .before .before .before .before in
-    let b = now (s .args .state) in
-    let z = s .args .sizes in
-    let w = s .args .w in
-    let i = c .before .before .before .loop .i in
-    let l = slots-length z b in
-    let e = eq-eqb _ w (sym (c .before .word-at .ensures) ∙ c .if1 .taken) in
-    (here (hasWord w) (stackOf z b .slots) i blankSlot (c .before .before .before .loop .inv .1) (omega arith) e, search needs)
+    let l = c .before .before .before .loop in
+    find-here (s .args .sizes) (now (s .args .state)) (hasWord (s .args .w)) (l .i) (l .inv .1) (c .before .before .loop-test .taken) (eq-eqb _ (s .args .w) (sym (c .before .word-at .ensures) ∙ c .if1 .taken))
 
 add-i : tie.Need-add-i Inv-loop μ-loop
 add-i c = search needs
@@ -46,21 +38,14 @@ loop-less c = search needs
 loop-again : tie.Need-loop-again Inv-loop μ-loop
 loop-again c =
     let s = c .before .before .before .before .before in
-    let b = now (s .args .state) in
-    let z = s .args .sizes in
-    let w = s .args .w in
-    let i = c .before .before .before .loop .i in
-    let l = slots-length z b in
-    let e = ne-eqb _ w (λ h. c .if1 .left (c .before .word-at .ensures ∙ h)) in
-    (search needs, next (hasWord w) (stackOf z b .slots) i blankSlot (c .before .before .before .loop .inv .1) (omega arith) e)
+    let l = c .before .before .before .loop in
+    find-on (s .args .sizes) (now (s .args .state)) (hasWord (s .args .w)) (l .i) (l .inv .1) (c .before .before .loop-test .taken) (ne-eqb _ (s .args .w) (λ h. c .if1 .left (c .before .word-at .ensures ∙ h)))
 
 returns-2 : tie.Need-returns-2 Inv-loop μ-loop
 returns-2 c =
     let s = c .before .before .before in
-    let b = now (s .args .state) in
-    let z = s .args .sizes in
-    let l = slots-length z b in
-    (none (hasWord (s .args .w)) (stackOf z b .slots) (c .before .loop .i) (c .before .loop .inv .1) (omega arith), search needs)
+    let l = c .before .loop in
+    find-end (s .args .sizes) (now (s .args .state)) (hasWord (s .args .w)) (l .i) (l .inv .1) (l .inv .0) (c .loop-test .left)
 
 pub find-word-spec : {M : Type 1} → statement M
 find-word-spec =

@@ -1,12 +1,9 @@
 -- `sweep` walks upward: what is ahead of `i` is swept as from the start, and stops as from the start.
 use Prim.Native.Nat.{_-_, suc}
-use native.Mathlib.Omega.{arith}
 use mathlib.Core.Path.{_≡_, refl, sym, ap, _∙_}
-use mathlib.Core.List.{List}
 use lib.ListN.{drop}
 use denote.Ref.{now}
 use borrow.Author.Needs.{needs}
-use Rattle.reassemble.specs.declared.Reassembler.{Reassembler}
 use Rattle.state.specs.Stack.{stackOf, slotAt}
 use Rattle.tables.specs.Walks.{swept, blocked}
 use Rattle.tables.proofs.SlotLoops.{slotsIn, Walked, walk-start, walk-next, walk-done, walk-stop, drop-here, drop-next, drop-end, becomes-length}

@@ -1,5 +1,5 @@
 -- `sweep_slot` tests as the definition does: a slot that is no reply, or has a handle out, is as it was.
-use mathlib.Core.Path.{_≡_, sym, ap, subst, _∙_}
+use mathlib.Core.Path.{sym, ap, subst, _∙_}
 use denote.Ref.{now}
 use Rattle.reassemble.specs.declared.Reassembler.{Reassembler}
 use Rattle.reassemble.specs.Slot.{isReply, handleTaken}
