@@ -1,0 +1,94 @@
+-- Document 01, `new`, `set_eid`, `eid`, `is_local_dest`, `cancel_flow`, free tags.
+-- Leans on `mctp` for EIDs, on `tables` for a cancel's walk.
+use Prim.Native.Nat.{ℕ}
+use mathlib.Core.Path.{_≡_}
+use mathlib.Core.Bool.{Bool, true, false}
+use mathlib.Core.List.{List}
+use lib.Dec.{ltb}
+use lib.ListN.{replicate}
+use Rattle.octets.specs.Pick.{pick}
+use Rattle.mctp.specs.declared.Eid.{Eid}
+use Rattle.mctp.specs.declared.EidRead.{EidRead}
+use Rattle.mctp.specs.declared.EidRead.the-variants.{Normal, Refused as NotNormal}
+use Rattle.mctp.specs.declared.TagValue.{TagValue}
+use Rattle.mctp.specs.declared.Error.{Error}
+use Rattle.mctp.specs.declared.Error.the-variants.{InvalidInput, NoSpace, BadArgument}
+use Rattle.mctp.specs.Terms.{normalEid}
+use Rattle.flows.specs.Table.{noFlow, removed, usedTags}
+use Rattle.flows.specs.Tags.{freeCount}
+use Rattle.reassemble.specs.Slot.{blankSlot}
+use Rattle.reassemble.specs.Enter.{localPacket}
+use Rattle.state.specs.declared.Sizes.{Sizes}
+use Rattle.state.specs.declared.Head.{Head}
+use Rattle.state.specs.Layout.{flowCount, size}
+use Rattle.state.specs.Stack.{Stack, Becomes, rehead}
+use Rattle.tables.specs.Walks.{reslots, reflows, swept, blocked}
+use Rattle.estack.specs.declared.Done.{Done}
+use Rattle.estack.specs.declared.Done.the-variants.{Done as Well, Refused}
+use Rattle.estack.specs.Handles.{Outcome}
+
+-- a stack that has done nothing: no slot taken, no flow, tag and sequence counters 0, the planned check at 0, no handle out yet
+abbrev pub freshHead : Eid → ℕ → ℕ → Head
+freshHead own mtu clock = record {
+  «own_eid» = own;
+  mtu = mtu;
+  now = record { clock = clock; counter = 0 };
+  «next_timeout» = 0;
+  «next_tag» = 0;
+  «next_seq» = 0;
+  issue = 0;
+}
+
+abbrev pub freshStack : Sizes → Eid → ℕ → ℕ → Stack
+freshStack z own mtu clock = record {
+  head = freshHead own mtu clock;
+  flows = replicate flowCount noFlow;
+  slots = replicate (z .slots) blankSlot;
+}
+
+-- what `new` says: a state buffer that is too short is NoSpace, sizes that no state has and an MTU under 5 are BadArgument
+unfoldable pub newSays : Sizes → ℕ → ℕ → Done
+newSays z room mtu =
+    pick (ltb 255 (z .slots)) (Refused BadArgument)
+    (pick (ltb 65535 (z .body)) (Refused BadArgument)
+    (pick (ltb room (size z)) (Refused NoSpace) (pick (ltb mtu 5) (Refused BadArgument) Well)))
+
+-- what `new` makes of a buffer: a fresh stack at its front and the rest as it was, or nothing where it refuses
+abbrev pub NewMakes : Done → Sizes → Eid → ℕ → ℕ → List ℕ → List ℕ → Type 0
+NewMakes Well z own mtu clock b b′ = Becomes z b b′ (freshStack z own mtu clock)
+NewMakes (Refused err) z own mtu clock b b′ = b′ ≡ b
+
+abbrev pub reowned : Eid → Head → Head
+reowned own h = record {
+  «own_eid» = own;
+  mtu = h .mtu;
+  now = h .now;
+  «next_timeout» = h .«next_timeout»;
+  «next_tag» = h .«next_tag»;
+  «next_seq» = h .«next_seq»;
+  issue = h .issue;
+}
+
+-- 8 to 254, else InvalidInput
+abbrev pub eidSet : EidRead → Stack → Outcome
+eidSet (Normal own) st = record { stack = rehead (reowned own (st .head)) st; said = Well }
+eidSet (NotNormal err) st = record { stack = st; said = Refused err }
+
+abbrev pub setEidOf : ℕ → Stack → Outcome
+setEidOf eid st = eidSet (normalEid eid) st
+
+-- a good header to own or 0
+abbrev pub localOf : List ℕ → Stack → Bool
+localOf p st = localPacket (st .head .«own_eid») p
+
+-- walks slots upward, frees replies of that peer and tag; at one with a handle out stops with BadArgument, earlier ones stay freed, flow stays.
+-- Otherwise the flow goes, if there; absent is no error. A tag above 7 is InvalidInput
+unfoldable pub cancelOf : Eid → TagValue → Stack → Outcome
+cancelOf peer tag st =
+    pick (ltb 7 (tag .0)) (record { stack = st; said = Refused InvalidInput })
+    (pick (blocked peer tag (st .slots)) (record { stack = reslots (swept peer tag (st .slots)) st; said = Refused BadArgument })
+    (record { stack = reflows (removed peer tag (st .flows)) (reslots (swept peer tag (st .slots)) st); said = Well }))
+
+-- free tags left for a peer: the zeros among its eight used-tag bits
+abbrev pub freeTagsOf : Eid → Stack → ℕ
+freeTagsOf peer st = freeCount (usedTags peer (st .flows))

@@ -1,0 +1,5 @@
+pub mod Receive
+pub mod Handles
+pub mod Sends
+pub mod Update
+pub mod Basics

@@ -1,0 +1,123 @@
+// A new stack; its own EID; cancelling a flow; free tags.
+ghost use mathlib.Core.Path.{_≡_};
+ghost use Prim.Native.Nat.{_+_, _≤_, _<_};
+ghost use lib.ListN.{length};
+ghost use Rattle.state.specs.Stack.{Kept, Becomes, stackOf, rehead};
+ghost use Rattle.estack.specs.Basics.{freshStack, newSays, NewMakes, reowned, setEidOf, localOf, cancelOf, freeTagsOf};
+use crate::Done;
+use mctp::Eid;
+use mctp::EidRead;
+use mctp::Error;
+use mctp::TagValue;
+use stamp::EventStamp;
+use state::Head;
+use state::Sizes;
+
+// A new stack in the front of a buffer; what lies past it stays.
+pub fn new(state: &mut [u8], sizes: Sizes, own: Eid, mtu: usize, clock: u64) -> Done
+    ensures said { λ r. ⌜ r ≡ newSays sizes (length (now (state .entry))) mtu ⌝ }
+    ensures stack { λ r. ⌜ NewMakes r sizes own mtu clock (now (state .entry)) (now (state .exit)) ⌝ }
+{
+    if 255 < sizes.slots {
+        return Done::Refused(Error::BadArgument);
+    }
+    if 65535 < sizes.body {
+        return Done::Refused(Error::BadArgument);
+    }
+    let size = 2088 + 40 * sizes.slots;
+    if state.len() < size {
+        return Done::Refused(Error::NoSpace);
+    }
+    if mtu < 5 {
+        return Done::Refused(Error::BadArgument);
+    }
+    state::clear(state, size);
+    let stamp = EventStamp {
+        clock: clock,
+        counter: 0,
+    };
+    let h = Head {
+        own_eid: own,
+        mtu: mtu,
+        now: stamp,
+        next_timeout: 0,
+        next_tag: 0,
+        next_seq: 0,
+        issue: 0,
+    };
+    state::put_head(state, sizes, h);
+    Done::Done
+}
+
+// The own EID becomes another: 8 to 254.
+pub fn set_eid(state: &mut [u8], sizes: Sizes, eid: u8) -> Done
+    requires { ⌜ Kept sizes (now state) ⌝ }
+    ensures { λ r. ⌜ (r ≡ setEidOf eid (stackOf sizes (now (state .entry))) .said) × Becomes sizes (now (state .entry)) (now (state .exit)) (setEidOf eid (stackOf sizes (now (state .entry))) .stack) ⌝ }
+{
+    match Eid::new_normal(eid) {
+        EidRead::Normal(own) => {
+            put_own(state, sizes, own);
+            Done::Done
+        }
+        EidRead::Refused(err) => Done::Refused(err),
+    }
+}
+
+fn put_own(state: &mut [u8], sizes: Sizes, own: Eid)
+    requires { ⌜ Kept sizes (now state) ⌝ }
+    ensures { λ _. ⌜ Becomes sizes (now (state .entry)) (now (state .exit)) (rehead (reowned own (stackOf sizes (now (state .entry)) .head)) (stackOf sizes (now (state .entry)))) ⌝ }
+{
+    let h = state::head_at(state, sizes);
+    let stamp = h.now;
+    let next = Head {
+        own_eid: own,
+        mtu: h.mtu,
+        now: stamp,
+        next_timeout: h.next_timeout,
+        next_tag: h.next_tag,
+        next_seq: h.next_seq,
+        issue: h.issue,
+    };
+    state::put_head(state, sizes, next);
+}
+
+// The own EID.
+pub fn eid(state: &[u8], sizes: Sizes) -> Eid
+    requires { ⌜ Kept sizes (now state) ⌝ }
+    ensures { λ r. ⌜ r ≡ stackOf sizes (now (state .entry)) .head .«own_eid» ⌝ }
+{
+    state::own_eid(state, sizes)
+}
+
+// A good header to own or 0.
+pub fn is_local_dest(state: &[u8], sizes: Sizes, packet: &[u8]) -> bool
+    requires { ⌜ Kept sizes (now state) ⌝ }
+    ensures { λ r. ⌜ r ≡ localOf (now (packet .entry)) (stackOf sizes (now (state .entry))) ⌝ }
+{
+    reassemble::is_local_dest(state::own_eid(state, sizes), packet)
+}
+
+// Frees the replies of a peer and tag, and ends their flow.
+pub fn cancel_flow(state: &mut [u8], sizes: Sizes, source: Eid, tag: TagValue) -> Done
+    requires { ⌜ Kept sizes (now state) ⌝ }
+    ensures { λ r. ⌜ (r ≡ cancelOf source tag (stackOf sizes (now (state .entry))) .said) × Becomes sizes (now (state .entry)) (now (state .exit)) (cancelOf source tag (stackOf sizes (now (state .entry))) .stack) ⌝ }
+{
+    if 7 < tag.0 {
+        return Done::Refused(Error::InvalidInput);
+    }
+    let stopped = tables::sweep(state, sizes, source, tag);
+    if stopped {
+        return Done::Refused(Error::BadArgument);
+    }
+    tables::remove_flow(state, sizes, source, tag);
+    Done::Done
+}
+
+// Free tags left for a peer.
+pub fn free_tags(state: &[u8], sizes: Sizes, peer: Eid) -> u8
+    requires { ⌜ Kept sizes (now state) ⌝ }
+    ensures { λ r. ⌜ r ≡ freeTagsOf peer (stackOf sizes (now (state .entry))) ⌝ }
+{
+    let used = tables::used_tags(state, sizes, peer);
+    flows::tags::free_tags(used)
+}

@@ -1,0 +1,141 @@
+// Handles: fetch, finish, return, set cookie; the deferred lookups.
+ghost use mathlib.Core.Path.{_≡_};
+ghost use Prim.Native.Nat.{_+_, _≤_, _<_};
+ghost use lib.ListN.{length};
+ghost use Rattle.state.specs.Stack.{Kept, Becomes, stackOf};
+ghost use Rattle.estack.specs.Handles.{isGood, finishOf, returnOf, cookieOf, fetchOf, takeOf, bySourceOf, byCookieOf};
+use crate::Deferred;
+use crate::Done;
+use crate::Fetched;
+use crate::Message;
+use crate::ReceiveHandle;
+use mctp::Cookie;
+use mctp::Eid;
+use mctp::Error;
+use mctp::Tag;
+use state::Sizes;
+
+// The handle is out: its slot is done, and its number is this one.
+fn is_good(state: &[u8], sizes: Sizes, handle: ReceiveHandle) -> bool
+    requires { ⌜ Kept sizes (now state) ⌝ }
+    ensures { λ r. ⌜ r ≡ isGood handle (stackOf sizes (now (state .entry))) ⌝ }
+{
+    let i = handle.index;
+    if i < sizes.slots {
+        let s = state::slot_at(state, sizes, i);
+        return s.handle_is(handle.issue);
+    }
+    false
+}
+
+// The message under a handle; nothing changes.
+pub fn fetch_message(state: &[u8], sizes: Sizes, pool: &[u8], handle: ReceiveHandle) -> Fetched
+    requires { ⌜ Kept sizes (now state) ⌝ }
+    ensures { λ r. ⌜ r ≡ fetchOf (sizes .body) handle (stackOf sizes (now (state .entry))) (length (now (pool .entry))) ⌝ }
+{
+    if pool.len() < sizes.body * sizes.slots {
+        return Fetched::Refused(Error::PoolShort);
+    }
+    let good = is_good(state, sizes, handle);
+    if good {
+        let i = handle.index;
+        let s = state::slot_at(state, sizes, i);
+        let key = s.key;
+        let typ = s.typ;
+        let ic = s.ic;
+        let cookie = s.cookie;
+        return Fetched::Message(Message {
+            key: key,
+            typ: typ,
+            ic: ic,
+            cookie: cookie,
+            at: sizes.body * i,
+            len: s.len,
+        });
+    }
+    Fetched::Refused(Error::BadArgument)
+}
+
+// The message is finished: its slot is empty.
+pub fn finished_receive(state: &mut [u8], sizes: Sizes, handle: ReceiveHandle) -> Done
+    requires { ⌜ Kept sizes (now state) ⌝ }
+    ensures { λ r. ⌜ (r ≡ finishOf handle (stackOf sizes (now (state .entry))) .said) × Becomes sizes (now (state .entry)) (now (state .exit)) (finishOf handle (stackOf sizes (now (state .entry))) .stack) ⌝ }
+{
+    let good = is_good(state, sizes, handle);
+    if good {
+        let i = handle.index;
+        state::put_slot(state, sizes, i, reassemble::blank());
+        return Done::Done;
+    }
+    Done::Refused(Error::BadArgument)
+}
+
+// The handle comes back, and the message is kept.
+pub fn return_handle(state: &mut [u8], sizes: Sizes, handle: ReceiveHandle) -> Done
+    requires { ⌜ Kept sizes (now state) ⌝ }
+    ensures { λ r. ⌜ (r ≡ returnOf handle (stackOf sizes (now (state .entry))) .said) × Becomes sizes (now (state .entry)) (now (state .exit)) (returnOf handle (stackOf sizes (now (state .entry))) .stack) ⌝ }
+{
+    let good = is_good(state, sizes, handle);
+    if good {
+        let i = handle.index;
+        let s = state::slot_at(state, sizes, i);
+        state::put_slot(state, sizes, i, s.return_handle());
+        return Done::Done;
+    }
+    Done::Refused(Error::BadArgument)
+}
+
+// That slot has another cookie.
+pub fn set_cookie(state: &mut [u8], sizes: Sizes, handle: ReceiveHandle, cookie: Cookie) -> Done
+    requires { ⌜ Kept sizes (now state) ⌝ }
+    ensures { λ r. ⌜ (r ≡ cookieOf handle cookie (stackOf sizes (now (state .entry))) .said) × Becomes sizes (now (state .entry)) (now (state .exit)) (cookieOf handle cookie (stackOf sizes (now (state .entry))) .stack) ⌝ }
+{
+    let good = is_good(state, sizes, handle);
+    if good {
+        let i = handle.index;
+        let s = state::slot_at(state, sizes, i);
+        state::put_slot(state, sizes, i, s.set_cookie(cookie));
+        return Done::Done;
+    }
+    Done::Refused(Error::BadArgument)
+}
+
+// The handle of slot i goes out, where there is a slot i.
+fn take(state: &mut [u8], sizes: Sizes, i: usize) -> Deferred
+    requires { ⌜ Kept sizes (now state) ⌝ }
+    ensures { λ r. ⌜ (r ≡ takeOf i (stackOf sizes (now (state .entry))) .said) × Becomes sizes (now (state .entry)) (now (state .exit)) (takeOf i (stackOf sizes (now (state .entry))) .stack) ⌝ }
+{
+    if i < sizes.slots {
+        let issue = crate::issue::next_issue(state::issue_at(state, sizes));
+        let s = state::slot_at(state, sizes, i);
+        state::put_slot(state, sizes, i, s.take_handle(issue));
+        state::put_issue(state, sizes, issue);
+        return Deferred::Found(ReceiveHandle {
+            index: i,
+            issue: issue,
+        });
+    }
+    Deferred::Nothing
+}
+
+// The earliest message kept from that source under that tag.
+pub fn get_deferred(state: &mut [u8], sizes: Sizes, source: Eid, tag: Tag) -> Deferred
+    requires { ⌜ Kept sizes (now state) ⌝ }
+    ensures { λ r. ⌜ (r ≡ bySourceOf source tag (stackOf sizes (now (state .entry))) .said) × Becomes sizes (now (state .entry)) (now (state .exit)) (bySourceOf source tag (stackOf sizes (now (state .entry))) .stack) ⌝ }
+{
+    let t = tag.tag();
+    if 7 < t.0 {
+        return Deferred::Nothing;
+    }
+    let i = tables::earliest_from(state, sizes, source, tag.is_owner(), t);
+    take(state, sizes, i)
+}
+
+// The earliest message kept whose cookie is one of the list.
+pub fn get_deferred_bycookie(state: &mut [u8], sizes: Sizes, cookies: &[u64]) -> Deferred
+    requires { ⌜ Kept sizes (now state) ⌝ }
+    ensures { λ r. ⌜ (r ≡ byCookieOf (now (cookies .entry)) (stackOf sizes (now (state .entry))) .said) × Becomes sizes (now (state .entry)) (now (state .exit)) (byCookieOf (now (cookies .entry)) (stackOf sizes (now (state .entry))) .stack) ⌝ }
+{
+    let i = tables::earliest_listed(state, sizes, cookies);
+    take(state, sizes, i)
+}

@@ -1,0 +1,112 @@
+// Starting a send: type and tag, the flow, the sequence, the MTU, in this order.
+ghost use mathlib.Core.Path.{_≡_};
+ghost use Prim.Native.Nat.{_<_, min};
+ghost use Rattle.mctp.specs.Terms.{tagOf};
+ghost use Rattle.state.specs.Stack.{Kept, Becomes, stackOf};
+ghost use Rattle.tables.specs.Walks.{WishOk};
+ghost use Rattle.estack.specs.Sends.{badTag, mtuOf, sendUnder, ownedSend, givenSend, startSendOf};
+use crate::Send;
+use crate::SendMtu;
+use crate::SendTag;
+use flows::Granted;
+use flows::Wish;
+use fragment::Fragmenter;
+use fragment::Started;
+use mctp::Error;
+use mctp::Tag;
+use state::Head;
+use state::Sizes;
+
+fn smaller(a: usize, b: usize) -> usize
+    ensures { λ r. ⌜ r ≡ min a b ⌝ }
+{
+    if a < b {
+        return a;
+    }
+    b
+}
+
+fn mtu_for(mtu: SendMtu, own: usize) -> usize
+    ensures { λ r. ⌜ r ≡ mtuOf mtu own ⌝ }
+{
+    match mtu {
+        SendMtu::Own => own,
+        SendMtu::AtMost(n) => smaller(own, n),
+    }
+}
+
+fn is_bad_tag(tag: SendTag) -> bool
+    ensures { λ r. ⌜ r ≡ badTag tag ⌝ }
+{
+    match tag {
+        SendTag::Fresh => false,
+        SendTag::Given(t) => 7 < t.tag().0,
+    }
+}
+
+// The sequence goes up, and then the MTU is looked at.
+fn send_under(state: &mut [u8], sizes: Sizes, send: Send, tag: Tag) -> Started
+    requires { ⌜ Kept sizes (now state) ⌝ }
+    ensures { λ r. ⌜ (r ≡ sendUnder send tag (stackOf sizes (now (state .entry))) .said) × Becomes sizes (now (state .entry)) (now (state .exit)) (sendUnder send tag (stackOf sizes (now (state .entry))) .stack) ⌝ }
+{
+    let h = state::head_at(state, sizes);
+    let seq = (h.next_seq % 4 + 1) % 4;
+    let own = h.own_eid;
+    let stamp = h.now;
+    let next = Head {
+        own_eid: own,
+        mtu: h.mtu,
+        now: stamp,
+        next_timeout: h.next_timeout,
+        next_tag: h.next_tag,
+        next_seq: seq,
+        issue: h.issue,
+    };
+    state::put_head(state, sizes, next);
+    let m = send.mtu;
+    let mtu = mtu_for(m, h.mtu);
+    let cookie = send.cookie;
+    Fragmenter::new(send.typ, own, send.dest, tag, mtu, cookie, send.ic, seq)
+}
+
+// Under a tag of our own: the flow first.
+fn owned_send(state: &mut [u8], sizes: Sizes, send: Send, wish: Wish) -> Started
+    requires { ⌜ Kept sizes (now state) × WishOk wish ⌝ }
+    ensures { λ r. ⌜ (r ≡ ownedSend send wish (stackOf sizes (now (state .entry))) .said) × Becomes sizes (now (state .entry)) (now (state .exit)) (ownedSend send wish (stackOf sizes (now (state .entry))) .stack) ⌝ }
+{
+    let cookie = send.cookie;
+    let granted = tables::set_flow(state, sizes, send.dest, wish, send.expires, cookie);
+    match granted {
+        Granted::Tag(t) => send_under(state, sizes, send, Tag::Owned(t)),
+        Granted::Refused(err) => Started::Refused(err),
+    }
+}
+
+fn given_send(state: &mut [u8], sizes: Sizes, send: Send, tag: Tag) -> Started
+    requires { ⌜ Kept sizes (now state) × (tagOf tag .0 < 8) ⌝ }
+    ensures { λ r. ⌜ (r ≡ givenSend send tag (stackOf sizes (now (state .entry))) .said) × Becomes sizes (now (state .entry)) (now (state .exit)) (givenSend send tag (stackOf sizes (now (state .entry))) .stack) ⌝ }
+{
+    match tag {
+        Tag::Owned(t) => owned_send(state, sizes, send, Wish::Fixed(t)),
+        Tag::Unowned(_) => send_under(state, sizes, send, tag),
+    }
+}
+
+// Starts a send: a fragmenter for the message, or a refusal.
+pub fn start_send(state: &mut [u8], sizes: Sizes, send: Send) -> Started
+    requires { ⌜ Kept sizes (now state) ⌝ }
+    ensures { λ r. ⌜ (r ≡ startSendOf send (stackOf sizes (now (state .entry))) .said) × Becomes sizes (now (state .entry)) (now (state .exit)) (startSendOf send (stackOf sizes (now (state .entry))) .stack) ⌝ }
+{
+    if 127 < send.typ.0 {
+        return Started::Refused(Error::InvalidInput);
+    }
+    let tag = send.tag;
+    let bad = is_bad_tag(tag);
+    if bad {
+        return Started::Refused(Error::InvalidInput);
+    }
+    match tag {
+        SendTag::Fresh => owned_send(state, sizes, send, Wish::Fresh),
+        SendTag::Given(t) => given_send(state, sizes, send, t),
+    }
+}

@@ -1,0 +1,25 @@
+-- The starred figures: the definitions give what document 01 says, all by computation.
+use mathlib.Core.Path.{refl}
+use Rattle.octets.specs.Pick.{pick}
+use Rattle.octets.specs.Find.{find}
+use Rattle.octets.specs.Bytes.{part, over}
+use Rattle.mctp.specs.Header.{headerOf}
+use Rattle.stamp.specs.Stamp.{next, clocked, expired, timeoutOf}
+use Rattle.flows.specs.Tags.{bitsOf, freeTagOf}
+use Rattle.flows.specs.Table.{isFlow, newFlow, insertFlow, withTag, freshFlow, setFlow, fadedFlow}
+use Rattle.reassemble.specs.Slot.{fadedSlot}
+use Rattle.reassemble.specs.Search.{slotFor}
+use Rattle.reassemble.specs.Enter.{isLocal, opening, gate, gateEmpty, enter, append}
+use Rattle.fragment.specs.Step.{newOf, stepOf}
+use Rattle.fragment.specs.Run.{written}
+use Rattle.tables.specs.Walks.{leastLeft, anyExpired}
+use Rattle.estack.specs.Receive.{nextIssue, land, receiveAt, receiveBy, receiveOf}
+use Rattle.estack.specs.Sends.{granted, ownedSend, tagSend, startSendOf}
+use Rattle.estack.specs.Update.{checked, updateOf}
+use Rattle.promises.specs.Calls.{step}
+use Rattle.promises.specs.Figures.{tags, table, Given}
+
+-- the definitions give every starred figure
+pub figures : Given table
+unfolding tags pick find part over headerOf next clocked expired timeoutOf bitsOf freeTagOf isFlow newFlow insertFlow withTag freshFlow setFlow fadedFlow fadedSlot slotFor isLocal opening gate gateEmpty enter append newOf stepOf written leastLeft anyExpired nextIssue land receiveAt receiveBy receiveOf granted ownedSend tagSend startSendOf checked updateOf step
+figures = (refl, (refl, (refl, (refl, (refl, (refl, (refl, (refl, (refl, (refl, (refl, tt)))))))))))

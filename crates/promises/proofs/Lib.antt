@@ -1,0 +1,25 @@
+-- Demand 3: `hands-out` of HandOut and `told` of Told are its halves. Instances meets their premises, ShutOut excludes the wrong stacks.
+pub mod Facts
+pub mod Slots
+pub mod Pool
+pub mod Gate
+pub mod Outcome
+pub mod Clock
+pub mod Walks
+pub mod Quiet
+pub mod Frame
+pub mod Arrive
+pub mod Deliver
+pub mod Begin
+pub mod HandOut
+pub mod Since
+pub mod Story
+pub mod Taking
+pub mod Runs
+pub mod Told
+pub mod Instances
+pub mod Least
+pub mod Bits
+pub mod ShutOut
+pub mod EndToEnd
+pub mod Figures

@@ -1,0 +1,190 @@
+-- The wrong stacks that document 01, "Pinning every answer down", names: for each a statement that no stack of these definitions is one.
+use Prim.Native.Nat.{ℕ, _-_, _≤_, _<_}
+use native.Mathlib.Omega.{arith}
+use mathlib.Core.Path.{_≡_, refl, sym, ap, _∙_, subst}
+use mathlib.Core.Logic.{_⊎_, inl, inr}
+use mathlib.Core.Bool.{Bool, true, false, not}
+use mathlib.Core.List.{List, [], _∷_}
+use lib.Dec.{ltb}
+use lib.ListN.{length, getD}
+use lib.Seq.{getD-set-same}
+use borrow.Author.Tests.{ltb-true, le-ltb}
+use Rattle.octets.specs.Pick.{pick, pick-false, pick-cases}
+use Rattle.mctp.specs.declared.Eid.{Eid}
+use Rattle.mctp.specs.declared.Key.{Key}
+use Rattle.mctp.specs.declared.MsgType.{MsgType}
+use Rattle.mctp.specs.declared.MsgIC.{MsgIC}
+use Rattle.mctp.specs.declared.Error.the-variants.{InvalidInput}
+use Rattle.mctp.specs.declared.Header.{Header}
+use Rattle.mctp.specs.declared.HeaderRead.the-variants.{Good}
+use Rattle.mctp.specs.Header.{headerOf, lead}
+use Rattle.stamp.specs.declared.EventStamp.{EventStamp}
+use Rattle.stamp.specs.declared.Timeout.the-variants.{Left}
+use Rattle.flows.specs.Table.{noFlow, standing, flowTimeout}
+use Rattle.reassemble.specs.declared.State.{State}
+use Rattle.reassemble.specs.declared.State.the-variants.{Empty, Collecting, Done, HandleOut}
+use Rattle.reassemble.specs.declared.Reassembler.{Reassembler}
+use Rattle.reassemble.specs.Slot.{blankSlot, emptyState, outState, slotTimeout}
+use Rattle.reassemble.specs.Enter.{appended, outcomeOf}
+use Rattle.fragment.specs.declared.Fragmenter.{Fragmenter}
+use Rattle.fragment.specs.Cutting.{bodyIn}
+use Rattle.fragment.specs.Step.{Step, packetOf, emitted, stepOf}
+use Rattle.state.specs.Stack.{Stack, slotAt, flowAt}
+use Rattle.estack.specs.declared.ReceiveHandle.{ReceiveHandle}
+use Rattle.estack.specs.declared.Received.the-variants.{Message as Told}
+use Rattle.estack.specs.declared.Updated.the-variants.{Next, Refused}
+use Rattle.estack.specs.Receive.{Receipt, saidOf, receiveOf}
+use Rattle.tables.specs.Walks.{leastLeft, slotTimes}
+use Rattle.estack.specs.Update.{Update, interval, leastOf, checked, updateOf}
+use Rattle.estack.specs.Basics.{freeTagsOf}
+use Rattle.promises.specs.Calls.{World, Call, receive, step, receipt}
+use Rattle.promises.specs.Delivery.{Message, Delivers, Lawful}
+use Rattle.promises.specs.History.{takes}
+use Rattle.promises.proofs.Facts.{no-both, no-true}
+use Rattle.promises.proofs.Slots.{collects-state}
+use Rattle.promises.proofs.Gate.{Source, collected, opens}
+use Rattle.promises.proofs.Outcome.{Took, Outcome, quiet, dropped, took, receive-outcome}
+use Rattle.promises.proofs.HandOut.{hands-out, one-message}
+use Rattle.promises.proofs.Least.{LeastOf, least-left}
+use Rattle.promises.proofs.Bits.{howMany, all-bits}
+
+-- ---- one that refuses all
+
+-- the first packet of a lawful message is taken, and by `hands-out` every later one
+pub not-refused : (B : ℕ) (K : Key) (typ : MsgType) (ic : MsgIC) (mtu : ℕ) (body p : List ℕ) (ps : List (List ℕ)) (gaps : List (List Call)) (w : World)
+    → Lawful B K typ ic mtu body (p ∷ ps) gaps w → takes (receipt B p w .said) ≡ true
+unfolding Delivers
+not-refused B K typ ic mtu body p [] gaps w law = ap takes (hands-out B K typ ic mtu body (p ∷ []) gaps w law .told)
+not-refused B K typ ic mtu body p (q ∷ ps) gaps w law = ap takes (hands-out B K typ ic mtu body (p ∷ q ∷ ps) gaps w law .0)
+
+-- ---- one that hands out the same message always
+
+-- two lawful messages for which one and the same message is handed out are one: key, type, IC and body
+pub not-always-one : (B : ℕ) (K K′ : Key) (typ typ′ : MsgType) (ic ic′ : MsgIC) (mtu mtu′ : ℕ) (body body′ : List ℕ) (ps ps′ : List (List ℕ))
+    (gaps gaps′ : List (List Call)) (w w′ : World)
+    → Lawful B K typ ic mtu body ps gaps w → Lawful B K′ typ′ ic′ mtu′ body′ ps′ gaps′ w′
+    → (m : Message) → Delivers B m ps gaps w → Delivers B m ps′ gaps′ w′
+    → (K ≡ K′) × (typ ≡ typ′) × (ic ≡ ic′) × (body ≡ body′)
+not-always-one B K K′ typ typ′ ic ic′ mtu mtu′ body body′ ps ps′ gaps gaps′ w w′ law law′ m d d′ =
+    let e = one-message B ps gaps w _ m (hands-out B K typ ic mtu body ps gaps w law) d
+    ∙ one-message B ps′ gaps′ w′ m _ d′ (hands-out B K′ typ′ ic′ mtu′ body′ ps′ gaps′ w′ law′) in
+    (ap (λ (x : Message). x .key) e, ap (λ (x : Message). x .typ) e, ap (λ (x : Message). x .ic) e, ap (λ (x : Message). x .body) e)
+
+-- ---- one that does nothing
+
+-- a fragmenter that is not done, with room for its header and with its payload, writes its packet
+pub writes : (f : Fragmenter) (payload : List ℕ) (n : ℕ) → f .done ≡ false → lead (f .first) ≤ n → f .«payload_used» ≤ length payload
+    → stepOf f payload n .bytes ≡ packetOf f payload n
+unfolding stepOf
+writes f payload n d r u =
+    ap (λ (s : Step). s .bytes)
+    (pick-false (f .done) _ _ d ∙ pick-false (ltb n (lead (f .first))) _ _ (le-ltb n (lead (f .first)) r)
+    ∙ pick-false (ltb (length payload) (f .«payload_used»)) _ (emitted f payload n) (le-ltb (length payload) (f .«payload_used») u))
+
+said-eom : (b : Bool) (i n : ℕ) (h : ReceiveHandle) → saidOf (outcomeOf b) i n ≡ Told h → b ≡ true
+said-eom true i n h e = refl
+said-eom false i n h e = let z : false ≡ true = cc in z
+
+empty-idle : (f : State) → emptyState f ≡ true → outState f ≡ false
+empty-idle Empty e = refl
+empty-idle Collecting e = refl
+empty-idle Done e = refl
+empty-idle (HandleOut n) e = absurd (no-true e)
+
+-- the slot that a closing packet fills had no handle out
+source-idle : (l : List Reassembler) (i : ℕ) (h : Header) → Source l i h → outState (getD l i blankSlot .state) ≡ false
+source-idle l i h (collected c) = ap outState (collects-state (h .key) (getD l i blankSlot) c)
+source-idle l i h (opens e y n) = empty-idle (getD l i blankSlot .state) e
+
+out-now : (b : Bool) (now : EventStamp) (issue n : ℕ) (s : Reassembler) → b ≡ true → outState (appended b now issue n s .state) ≡ true
+unfolding pick
+out-now b now issue n s e = rw e
+
+module _ (B : ℕ) (st : Stack) (p : List ℕ) (h : ReceiveHandle) where
+  message-took : (r : Receipt) → Outcome B st p r → r .said ≡ Told h → (i : ℕ) × (g : Header) × Took B st p r i g
+  message-took r (quiet s b n) e = absurd (no-both (takes (r .said)) (ap takes e) n)
+  message-took r (dropped i g read src s b n) e = absurd (no-both (takes (r .said)) (ap takes e) n)
+  message-took r (took i g t) e = (i, g, t)
+
+-- a stack that hands out a message is another afterwards
+pub changes : (B : ℕ) (p : List ℕ) (w : World) (h : ReceiveHandle) → receipt B p w .said ≡ Told h → step B (receive p) w .stack ≡ w .stack → ⊥
+unfolding step
+changes B p w h e same =
+    let q = message-took B (w .stack) p h (receipt B p w) (receive-outcome B (w .stack) p (length (w .pool))) e in
+    let i = q .0 in
+    let g = q .1 in
+    let t : Took B (w .stack) p (receipt B p w) i g = q .2 in
+    let s = appended (g .eom) (t .now) (t .issue) (length (bodyIn p)) (t .base) in
+    let now : slotAt i (w .stack) ≡ s =
+    ap (λ (x : Stack). slotAt i x) (sym same) ∙ ap (λ (l : List Reassembler). getD l i blankSlot) (t .slots) ∙ getD-set-same (w .stack .slots) i s blankSlot (t .found) in
+    no-both (outState (slotAt i (w .stack) .state))
+    (ap (λ (x : Reassembler). outState (x .state)) now ∙ out-now (g .eom) (t .now) (t .issue) (length (bodyIn p)) (t .base) (said-eom (g .eom) i (t .issue) h (sym (t .said) ∙ e)))
+    (source-idle (w .stack .slots) i g (t .source))
+
+-- ---- one that hands a message out at SOM and merely nods afterwards
+
+-- a packet without EOM, with SOM or not, is never answered with a message, in whatever stack and with whatever pool
+pub not-before-eom : (B : ℕ) (st : Stack) (room : ℕ) (p : List ℕ) (g : Header) → headerOf p ≡ Good g → g .eom ≡ false
+    → (h : ReceiveHandle) → receiveOf B st room p .said ≡ Told h → ⊥
+not-before-eom B st room p g read n h e =
+    let q = message-took B st p h (receiveOf B st room p) (receive-outcome B st p room) e in
+    let t : Took B st p (receiveOf B st room p) (q .0) (q .1) = q .2 in
+    let z : Good g ≡ Good (q .1) = sym read ∙ t .read in
+    let x : g ≡ q .1 = cc in
+    no-both (g .eom) (ap (λ (y : Header). y .eom) x ∙ said-eom (q .1 .eom) (q .0) (t .issue) h (sym (t .said) ∙ e)) n
+
+-- ---- one that invents the remaining time
+
+-- n is the least of 100 and every remaining time at that clock: at most each of them, and one of them
+pub record Remaining (n now : ℕ) (st : Stack) : Type 0 where
+  pub most : n ≤ 100
+  pub slots : (k m : ℕ) → slotTimeout now (slotAt k st) ≡ Left m → n ≤ m
+  pub flows : (k m : ℕ) → flowTimeout now (flowAt k st) ≡ Left m → n ≤ m
+  pub met : (n ≡ 100) ⊎ (((k : ℕ) × (slotTimeout now (slotAt k st) ≡ Left n)) ⊎ ((k : ℕ) × (flowTimeout now (flowAt k st) ≡ Left n)))
+
+module _ (now : ℕ) (st : Stack) where
+  least-slot : LeastOf (leastLeft (slotTimes now st) interval) interval (slotTimeout now) blankSlot (st .slots)
+  least-slot = least-left (slotTimeout now) blankSlot refl (st .slots) interval
+
+  least-flow : LeastOf (leastOf now st) (leastLeft (slotTimes now st) interval) (flowTimeout now) noFlow (st .flows)
+  least-flow = least-left (flowTimeout now) noFlow refl (st .flows) (leastLeft (slotTimes now st) interval)
+
+  remaining : Remaining (leastOf now st) now st
+  remaining = record {
+    most = omega (arith, least-slot .bound, least-flow .bound);
+    slots = λ k m e. omega (arith, least-slot .below k m e, least-flow .bound);
+    flows = least-flow .below;
+    met = go (leastOf now st) (leastLeft (slotTimes now st) interval) (least-flow .met) (least-slot .met);
+  }
+    where
+      go : (n r : ℕ) → (n ≡ r) ⊎ ((k : ℕ) × (flowTimeout now (flowAt k st) ≡ Left n)) → (r ≡ 100) ⊎ ((k : ℕ) × (slotTimeout now (slotAt k st) ≡ Left r))
+          → (n ≡ 100) ⊎ (((k : ℕ) × (slotTimeout now (slotAt k st) ≡ Left n)) ⊎ ((k : ℕ) × (flowTimeout now (flowAt k st) ≡ Left n)))
+      go n r (inr q) s = inr (inr q)
+      go n r (inl e) (inl q) = inl (e ∙ q)
+      go n r (inl e) (inr q) = inr (inl (q .0, q .1 ∙ ap Left (sym e)))
+
+-- the number that `update` tells is the gap to the planned check, or the least of 100 and every remaining time
+pub told-time : (t : ℕ) (st : Stack) (n : ℕ) (expired : Bool) → updateOf t st .said ≡ Next n expired
+    → ((t < st .head .«next_timeout») × (n ≡ st .head .«next_timeout» - t)) ⊎ Remaining n t st
+unfolding updateOf checked
+told-time t st n expired =
+    pick-cases P (λ _ e. refused e)
+    (λ _. pick-cases P (λ y e. inl (ltb-true t (st .head .«next_timeout») y, told (st .head .«next_timeout» - t) false e))
+    (λ _ e. inr (subst (λ (m : ℕ). Remaining m t st) (sym (told (leastOf t st) _ e)) (remaining t st))))
+  where
+    P : Update → Type 0
+    P u = u .said ≡ Next n expired → ((t < st .head .«next_timeout») × (n ≡ st .head .«next_timeout» - t)) ⊎ Remaining n t st
+
+    refused : Refused InvalidInput ≡ Next n expired → ((t < st .head .«next_timeout») × (n ≡ st .head .«next_timeout» - t)) ⊎ Remaining n t st
+    refused e = absurd (let z : _≡_ {A = ℕ} 0 1 = cc in omega arith)
+
+    told : (m : ℕ) (b : Bool) → Next m b ≡ Next n expired → n ≡ m
+    told m b e = cc
+
+-- ---- one that invents the free tags
+
+-- the free tags that are told are as many as the tags under which no flow of that peer stands
+pub told-free : (peer : Eid) (st : Stack) → freeTagsOf peer st ≡ howMany (λ t. not (standing peer (record { 0 = t }) (st .flows))) 0 8
+told-free peer st =
+    let e = all-bits (λ t. standing peer (record { 0 = t }) (st .flows)) 0 8 in
+    omega arith

@@ -1,0 +1,139 @@
+-- Every public call with all its arguments, what it makes of a stack and of the pool that we watch, and what it answers: through the definitions that the
+-- contracts of `estack` cite, and nothing else. B is the most that a body holds.
+-- A receive comes in two kinds: lent the watched pool, or lent any other buffer. No other call writes a pool.
+use Prim.Native.Nat.{ℕ, _+_, _≤_}
+use mathlib.Core.Bool.{Bool, true, false, not, _&&_}
+use mathlib.Core.List.{List, [], _∷_}
+use lib.Dec.{leb}
+use lib.ListN.{length}
+use Rattle.octets.specs.Bytes.{over}
+use Rattle.mctp.specs.declared.Eid.{Eid}
+use Rattle.mctp.specs.declared.TagValue.{TagValue}
+use Rattle.mctp.specs.declared.Tag.{Tag}
+use Rattle.mctp.specs.declared.Key.{Key}
+use Rattle.mctp.specs.declared.Cookie.{Cookie}
+use Rattle.mctp.specs.declared.HeaderRead.{HeaderRead}
+use Rattle.mctp.specs.declared.HeaderRead.the-variants.{Good, Bad}
+use Rattle.mctp.specs.Terms.{sameKey, sameEid, sameTag}
+use Rattle.mctp.specs.Header.{headerOf}
+use Rattle.fragment.specs.declared.Started.{Started}
+use Rattle.state.specs.Stack.{Stack}
+use Rattle.estack.specs.declared.ReceiveHandle.{ReceiveHandle}
+use Rattle.estack.specs.declared.Received.{Received}
+use Rattle.estack.specs.declared.Done.{Done}
+use Rattle.estack.specs.declared.Updated.{Updated}
+use Rattle.estack.specs.declared.Deferred.{Deferred}
+use Rattle.estack.specs.declared.Fetched.{Fetched}
+use Rattle.estack.specs.declared.Send.{Send}
+use Rattle.estack.specs.Receive.{Receipt, receiveOf}
+use Rattle.estack.specs.Handles.{finishOf, returnOf, cookieOf, fetchOf, bySourceOf, byCookieOf}
+use Rattle.estack.specs.Sends.{startSendOf}
+use Rattle.estack.specs.Update.{updateOf}
+use Rattle.estack.specs.Basics.{setEidOf, localOf, cancelOf, freeTagsOf}
+
+pub data Call : Type 0 where
+  receive : List ℕ → Call  -- a packet, lent the pool that we watch
+  elsewhere : ℕ → List ℕ → Call  -- a packet, lent another buffer of that length
+  update : ℕ → Call
+  startSend : Send → Call
+  cancelFlow : Eid → TagValue → Call
+  getDeferred : Eid → Tag → Call
+  getDeferredByCookie : List ℕ → Call
+  fetchMessage : ReceiveHandle → ℕ → Call
+  finishedReceive : ReceiveHandle → Call
+  returnHandle : ReceiveHandle → Call
+  setCookie : ReceiveHandle → Cookie → Call
+  setEid : ℕ → Call
+  eid : Call
+  isLocalDest : List ℕ → Call
+  freeTags : Eid → Call
+
+-- a stack, and the pool that we watch
+pub record World : Type 0 where
+  pub stack : Stack
+  pub pool : List ℕ
+
+-- what a receive that is lent the watched pool makes
+abbrev pub receipt : ℕ → List ℕ → World → Receipt
+receipt B p w = receiveOf B (w .stack) (length (w .pool)) p
+
+abbrev pub with : Stack → World → World
+with st w = record { stack = st; pool = w .pool }
+
+unfoldable pub step : ℕ → Call → World → World
+step B (receive p) w = record { stack = receipt B p w .stack; pool = over (receipt B p w .at) (receipt B p w .bytes) (w .pool) }
+step B (elsewhere n p) w = with (receiveOf B (w .stack) n p .stack) w
+step B (update t) w = with (updateOf t (w .stack) .stack) w
+step B (startSend q) w = with (startSendOf q (w .stack) .stack) w
+step B (cancelFlow peer tag) w = with (cancelOf peer tag (w .stack) .stack) w
+step B (getDeferred source tag) w = with (bySourceOf source tag (w .stack) .stack) w
+step B (getDeferredByCookie cookies) w = with (byCookieOf cookies (w .stack) .stack) w
+step B (fetchMessage h n) w = w
+step B (finishedReceive h) w = with (finishOf h (w .stack) .stack) w
+step B (returnHandle h) w = with (returnOf h (w .stack) .stack) w
+step B (setCookie h cookie) w = with (cookieOf h cookie (w .stack) .stack) w
+step B (setEid n) w = with (setEidOf n (w .stack) .stack) w
+step B eid w = w
+step B (isLocalDest p) w = w
+step B (freeTags peer) w = w
+
+unfoldable pub steps : ℕ → List Call → World → World
+steps B [] w = w
+steps B (c ∷ cs) w = steps B cs (step B c w)
+
+-- what a call answers
+pub data Answer : Type 0 where
+  received : Received → Answer
+  updated : Updated → Answer
+  started : Started → Answer
+  deferred : Deferred → Answer
+  fetched : Fetched → Answer
+  done : Done → Answer
+  own : Eid → Answer
+  local : Bool → Answer
+  free : ℕ → Answer
+
+unfoldable pub answer : ℕ → Call → World → Answer
+answer B (receive p) w = received (receipt B p w .said)
+answer B (elsewhere n p) w = received (receiveOf B (w .stack) n p .said)
+answer B (update t) w = updated (updateOf t (w .stack) .said)
+answer B (startSend q) w = started (startSendOf q (w .stack) .said)
+answer B (cancelFlow peer tag) w = done (cancelOf peer tag (w .stack) .said)
+answer B (getDeferred source tag) w = deferred (bySourceOf source tag (w .stack) .said)
+answer B (getDeferredByCookie cookies) w = deferred (byCookieOf cookies (w .stack) .said)
+answer B (fetchMessage h n) w = fetched (fetchOf B h (w .stack) n)
+answer B (finishedReceive h) w = done (finishOf h (w .stack) .said)
+answer B (returnHandle h) w = done (returnOf h (w .stack) .said)
+answer B (setCookie h cookie) w = done (cookieOf h cookie (w .stack) .said)
+answer B (setEid n) w = done (setEidOf n (w .stack) .said)
+answer B eid w = own (w .stack .head .«own_eid»)
+answer B (isLocalDest p) w = local (localOf p (w .stack))
+answer B (freeTags peer) w = free (freeTagsOf peer (w .stack))
+
+-- p is a packet of that key
+abbrev pub hasKey : Key → HeaderRead → Bool
+hasKey K (Good h) = sameKey (h .key) K
+hasKey K Bad = false
+
+-- a message of that key is a reply of that peer and tag
+abbrev pub replyOf : Key → Eid → TagValue → Bool
+replyOf K peer tag = not (K .owner) && (sameEid (K .source) peer && sameTag (K .tag) tag)
+
+-- what may come between the fragments of a message of key K whose first came at clock t₀: anything but a packet of that key, for a reply a cancel of its
+-- peer and tag, or a clock more than 6,000 ms past the first
+abbrev pub permitted : Key → ℕ → Call → Bool
+permitted K t₀ (receive p) = not (hasKey K (headerOf p))
+permitted K t₀ (elsewhere n p) = not (hasKey K (headerOf p))
+permitted K t₀ (update t) = leb t (t₀ + 6000)
+permitted K t₀ (startSend q) = true
+permitted K t₀ (cancelFlow peer tag) = not (replyOf K peer tag)
+permitted K t₀ (getDeferred source tag) = true
+permitted K t₀ (getDeferredByCookie cookies) = true
+permitted K t₀ (fetchMessage h n) = true
+permitted K t₀ (finishedReceive h) = true
+permitted K t₀ (returnHandle h) = true
+permitted K t₀ (setCookie h cookie) = true
+permitted K t₀ (setEid n) = true
+permitted K t₀ eid = true
+permitted K t₀ (isLocalDest p) = true
+permitted K t₀ (freeTags peer) = true

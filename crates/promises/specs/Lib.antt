@@ -1,0 +1,4 @@
+pub mod Calls
+pub mod Delivery
+pub mod History
+pub mod Figures

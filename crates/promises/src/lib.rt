@@ -1,0 +1,10 @@
+// Theorems only: what the customer buys, stated over the definitions that every call's contract cites.
+// The statements: specs/ says what a call, a delivery and a history are; proofs/ has the theorems, by name in docs/PROMISES.md.
+ghost use mathlib.Core.Path.{_≡_};
+
+// The demands that the theorems of this crate answer.
+pub fn demands() -> u8
+    ensures { λ r. ⌜ r ≡ 3 ⌝ }
+{
+    3
+}
