@@ -7,3 +7,4 @@ pub mod Times
 pub mod UpdateLaws
 pub mod Entered
 pub mod Receipts
+pub mod Pinned
