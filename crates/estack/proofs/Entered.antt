@@ -29,6 +29,7 @@ use Rattle.reassemble.specs.declared.Gate.{Gate}
 use Rattle.reassemble.specs.declared.Gate.the-variants.{Shut, Pass}
 use Rattle.reassemble.specs.Enter.{enter, append, appended, begun, opened, gateEmpty, gateReply}
 use Rattle.state.specs.declared.Sizes.{Sizes}
+use Rattle.estack.proofs.SizeLaws.{pool-fits}
 use Rattle.state.specs.Slot.{SlotOk}
 use Rattle.state.specs.Layout.{SizesOk}
 use Rattle.state.specs.Stack.{Stack, Kept, Becomes, stackOf}
@@ -63,7 +64,7 @@ module _ (at from : ℕ) (packet pool : List ℕ) (fits : at + (length packet - 
 
 -- a pool's least length is a number of the machine
 pub sizes-fit : (z : Sizes) → SizesOk z → z .body * z .slots < 2 ^ 64
-sizes-fit z ok = let h : z .body * z .slots ≤ 65535 * 255 = mul-le-mul (ok .body) (ok .slots) in omega arith
+sizes-fit z ok = pool-fits z ok (z .slots) (omega arith)
 
 -- what a stamp of an event keeps
 pub record StampOk (t : EventStamp) : Type 0 where

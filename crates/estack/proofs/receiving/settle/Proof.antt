@@ -1,5 +1,5 @@
 -- `settle` stores the slot, concludes, and copies the plan's bytes to the slot's place: they fit the body, so they fit the pool.
-use Prim.Native.Nat.{ℕ, _+_, _*_, _-_}
+use Prim.Native.Nat.{ℕ, _+_, _*_, _-_, _≤_}
 use native.Mathlib.Omega.{arith}
 use mathlib.Core.Path.{sym, ap, _∙_}
 use lib.ListN.{length}
@@ -12,6 +12,15 @@ use Rattle.estack.proofs.Entered.{in-pool, lent-fits, copied}
 use Rattle.estack.proofs.receiving.settle.Statement.{statement}
 use Rattle.estack.proofs.receiving.settle.Tie as tie
 
+-- the plan's bytes are the packet's, and end within the slots' part of the pool
+room : (s : tie.Start)
+    → (s .args .sizes .body * s .args .i + s .args .e .at + (length (now (s .args .packet)) - s .args .e .from) ≤ s .args .sizes .body * s .args .sizes .slots)
+    × (s .args .sizes .body * s .args .sizes .slots ≤ length (now (s .args .pool)))
+    × (s .args .e .from ≤ length (now (s .args .packet)))
+room s =
+    let a = s .args in
+    (in-pool (a .sizes .body) (a .i) (a .sizes .slots) (a .e .at) (length (now (a .packet)) - a .e .from) (s .pre .1) (s .pre .3 .fits), s .pre .2, s .pre .3 .within)
+
 put-slot-requires : tie.Need-put-slot-requires
 put-slot-requires c κs = (c .before .before .before .before .before .pre .0, c .before .before .before .before .before .pre .1, c .before .before .before .before .before .pre .4)
 
@@ -20,91 +29,35 @@ conclude-requires c κs = (c .before .before .before .put-slot .ensures .kept, c
 
 mul-at : tie.Need-mul-at
 mul-at c =
-    let s = c .before .before .before .before .before .before .before .before .before .before .before .before .before in
-    let a = s .args in
-    let z = a .sizes in
-    let n = length (now (a .packet)) in
-    let r = in-pool (z .body) (a .i) (z .slots) (a .e .at) (n - a .e .from) (s .pre .1) (s .pre .3 .fits) in
-    let l = s .pre .2 in
-    let w = s .pre .3 .within in
-    search needs
+    let r = room (c .before .before .before .before .before .before .before .before .before .before .before .before .before) in search needs
 
 add-at : tie.Need-add-at
 add-at c =
-    let s = c .before .before .before .before .before .before .before .before .before .before .before .before .before .before in
-    let a = s .args in
-    let z = a .sizes in
-    let n = length (now (a .packet)) in
-    let r = in-pool (z .body) (a .i) (z .slots) (a .e .at) (n - a .e .from) (s .pre .1) (s .pre .3 .fits) in
-    let l = s .pre .2 in
-    let w = s .pre .3 .within in
-    search needs
+    let s = c .before .before .before .before .before .before .before .before .before .before .before .before .before .before in let r = room s in search needs
 
 sub-copy : tie.Need-sub-copy
 sub-copy c =
-    let s = c .before .before .before .before .before .before .before .before .before .before .before .before .before .before in
-    let a = s .args in
-    let z = a .sizes in
-    let n = length (now (a .packet)) in
-    let r = in-pool (z .body) (a .i) (z .slots) (a .e .at) (n - a .e .from) (s .pre .1) (s .pre .3 .fits) in
-    let l = s .pre .2 in
-    let w = s .pre .3 .within in
-    search needs
+    let r = room (c .before .before .before .before .before .before .before .before .before .before .before .before .before .before) in search needs
 
 part-copy-start : tie.Need-part-copy-start
 part-copy-start c =
-    let s = c .before .before .before .before .before .before .before .before .before .before .before .before .before .before in
-    let a = s .args in
-    let z = a .sizes in
-    let n = length (now (a .packet)) in
-    let r = in-pool (z .body) (a .i) (z .slots) (a .e .at) (n - a .e .from) (s .pre .1) (s .pre .3 .fits) in
-    let l = s .pre .2 in
-    let w = s .pre .3 .within in
-    search needs
+    let r = room (c .before .before .before .before .before .before .before .before .before .before .before .before .before .before) in search needs
 
 part-copy-end : tie.Need-part-copy-end
 part-copy-end c =
-    let s = c .before .before .before .before .before .before .before .before .before .before .before .before .before .before in
-    let a = s .args in
-    let z = a .sizes in
-    let n = length (now (a .packet)) in
-    let r = in-pool (z .body) (a .i) (z .slots) (a .e .at) (n - a .e .from) (s .pre .1) (s .pre .3 .fits) in
-    let l = s .pre .2 in
-    let w = s .pre .3 .within in
-    search needs
+    let r = room (c .before .before .before .before .before .before .before .before .before .before .before .before .before .before) in search needs
 
 sub-copy-2 : tie.Need-sub-copy-2
 sub-copy-2 c =
-    let s = c .before .before .before .before .before .before .before .before .before .before .before .before .before .before .before in
-    let a = s .args in
-    let z = a .sizes in
-    let n = length (now (a .packet)) in
-    let r = in-pool (z .body) (a .i) (z .slots) (a .e .at) (n - a .e .from) (s .pre .1) (s .pre .3 .fits) in
-    let l = s .pre .2 in
-    let w = s .pre .3 .within in
-    search needs
+    let r = room (c .before .before .before .before .before .before .before .before .before .before .before .before .before .before .before) in search needs
 
 part-copy-start-2 : tie.Need-part-copy-start-2
 part-copy-start-2 c =
-    let s = c .before .before .before .before .before .before .before .before .before .before .before .before .before .before .before in
-    let a = s .args in
-    let z = a .sizes in
-    let n = length (now (a .packet)) in
-    let r = in-pool (z .body) (a .i) (z .slots) (a .e .at) (n - a .e .from) (s .pre .1) (s .pre .3 .fits) in
-    let l = s .pre .2 in
-    let w = s .pre .3 .within in
-    search needs
+    let r = room (c .before .before .before .before .before .before .before .before .before .before .before .before .before .before .before) in search needs
 
 part-copy-end-2 : tie.Need-part-copy-end-2
 part-copy-end-2 c =
-    let s = c .before .before .before .before .before .before .before .before .before .before .before .before .before .before .before in
-    let a = s .args in
-    let z = a .sizes in
-    let n = length (now (a .packet)) in
-    let r = in-pool (z .body) (a .i) (z .slots) (a .e .at) (n - a .e .from) (s .pre .1) (s .pre .3 .fits) in
-    let l = s .pre .2 in
-    let w = s .pre .3 .within in
-    search needs
+    let r = room (c .before .before .before .before .before .before .before .before .before .before .before .before .before .before .before) in search needs
 
 copy-requires : tie.Need-copy-requires
 copy-requires c κs =
