@@ -20,12 +20,12 @@ use Rattle.state.specs.Slot.{SlotOk, issueNo}
 use Rattle.state.specs.Head.{reissued}
 use Rattle.state.specs.Stack.{Stack, Kept, Becomes, stackOf, slotAt, reslot, rehead}
 use Rattle.state.proofs.StackLaws.{slots-length, stays, andThen}
-use Rattle.estack.specs.declared.ReceiveHandle.{ReceiveHandle}
+use Rattle.receiving.specs.declared.ReceiveHandle.{ReceiveHandle}
 use Rattle.estack.specs.declared.Done.{Done}
 use Rattle.estack.specs.declared.Done.the-variants.{Done as Well, Refused}
 use Rattle.estack.specs.declared.Deferred.{Deferred}
 use Rattle.estack.specs.declared.Deferred.the-variants.{Found, Nothing}
-use Rattle.estack.specs.Receive.{nextIssue}
+use Rattle.receiving.specs.Receive.{nextIssue}
 use Rattle.estack.specs.Handles.{isGood, handled, takeOf}
 
 first-of : (b x : Bool) → pick b x false ≡ true → b ≡ true

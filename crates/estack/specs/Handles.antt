@@ -17,7 +17,7 @@ use Rattle.reassemble.specs.Slot.{blankSlot, handleIs, keptUnder, listed, resta
 use Rattle.reassemble.specs.Search.{earliest}
 use Rattle.state.specs.Head.{reissued}
 use Rattle.state.specs.Stack.{Stack, slotAt, reslot}
-use Rattle.estack.specs.declared.ReceiveHandle.{ReceiveHandle}
+use Rattle.receiving.specs.declared.ReceiveHandle.{ReceiveHandle}
 use Rattle.estack.specs.declared.Done.{Done}
 use Rattle.estack.specs.declared.Done.the-variants.{Done as Well, Refused}
 use Rattle.estack.specs.declared.Message.{Message}
@@ -25,7 +25,7 @@ use Rattle.estack.specs.declared.Fetched.{Fetched}
 use Rattle.estack.specs.declared.Fetched.the-variants.{Message as Fetch, Refused as Unfetched}
 use Rattle.estack.specs.declared.Deferred.{Deferred}
 use Rattle.estack.specs.declared.Deferred.the-variants.{Found, Nothing}
-use Rattle.estack.specs.Receive.{nextIssue}
+use Rattle.receiving.specs.Receive.{nextIssue}
 
 -- index past the slots, slot not done, handle not out or another number: the handle is no good
 unfoldable pub isGood : ReceiveHandle → Stack → Bool

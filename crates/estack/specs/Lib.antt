@@ -1,4 +1,3 @@
-pub mod Receive
 pub mod Handles
 pub mod Sends
 pub mod Update

@@ -8,11 +8,11 @@ use crate::Deferred;
 use crate::Done;
 use crate::Fetched;
 use crate::Message;
-use crate::ReceiveHandle;
 use mctp::Cookie;
 use mctp::Eid;
 use mctp::Error;
 use mctp::Tag;
+use receiving::ReceiveHandle;
 use state::Sizes;
 
 // The handle is out: its slot is done, and its number is this one.
@@ -106,7 +106,7 @@ fn take(state: &mut [u8], sizes: Sizes, i: usize) -> Deferred
     ensures { λ r. ⌜ (r ≡ takeOf i (stackOf sizes (now (state .entry))) .said) × Becomes sizes (now (state .entry)) (now (state .exit)) (takeOf i (stackOf sizes (now (state .entry))) .stack) ⌝ }
 {
     if i < sizes.slots {
-        let issue = crate::issue::next_issue(state::issue_at(state, sizes));
+        let issue = receiving::next_issue(state::issue_at(state, sizes));
         let s = state::slot_at(state, sizes, i);
         state::put_slot(state, sizes, i, s.take_handle(issue));
         state::put_issue(state, sizes, issue);

@@ -1,9 +1,7 @@
 // The stack: every public call of document 01, over a state kept in lent bytes, after the Rust's `Stack` in src/lib.rs.
-// Leans on `state` for the layout, on `tables` for walks, on `fragment` and `reassemble` for cutting and joining. Definitions: specs/.
+// Leans on `state` for the layout, on `tables` for walks, on `receiving` for receive, on `fragment` for cutting. Definitions: specs/.
 mod basics;
 mod handles;
-mod issue;
-mod receiving;
 mod sends;
 mod updates;
 
@@ -26,21 +24,11 @@ use mctp::Key;
 use mctp::MsgIC;
 use mctp::MsgType;
 use mctp::Tag;
+pub use receiving::ReceiveHandle;
+pub use receiving::Received;
 pub use receiving::receive;
 pub use sends::start_send;
 pub use updates::update;
-
-// A slot's index, and the number under which its handle went out.
-pub struct ReceiveHandle {
-    pub index: usize,
-    pub issue: u64,
-}
-
-pub enum Received {
-    More,
-    Message(ReceiveHandle),
-    Refused(Error),
-}
 
 // A call that has nothing to tell but a refusal.
 pub enum Done {

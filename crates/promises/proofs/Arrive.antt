@@ -29,8 +29,8 @@ use Rattle.reassemble.specs.Enter.{enter, append, appended, outcomeOf}
 use Rattle.fragment.specs.Cutting.{bodyIn, saysSom}
 use Rattle.state.specs.Stack.{Stack, slotAt}
 use Rattle.tables.specs.Walks.{ticked}
-use Rattle.estack.specs.declared.Received.the-variants.{More}
-use Rattle.estack.specs.Receive.{Receipt, nextIssue, saidOf, settled, land, opening, gateOf, receiveAt, receiveBy, receiveOf}
+use Rattle.receiving.specs.declared.Received.the-variants.{More}
+use Rattle.receiving.specs.Receive.{Receipt, nextIssue, saidOf, settled, land, opening, gateOf, receiveAt, receiveBy, receiveOf}
 use Rattle.promises.specs.Calls.{World, receive, step, receipt}
 use Rattle.promises.specs.Delivery.{Hands}
 use Rattle.promises.proofs.Pool.{slot-le, bodyAt, pool-length, body-append}

@@ -32,7 +32,7 @@ use Rattle.tables.specs.Walks.{tableOf, retable}
 use Rattle.estack.specs.declared.Send.{Send}
 use Rattle.estack.specs.declared.SendTag.{SendTag}
 use Rattle.estack.specs.declared.SendTag.the-variants.{Fresh, Given}
-use Rattle.estack.specs.Receive.{Receipt, land, opening, gateOf, receiveAt, receiveBy, receiveOf}
+use Rattle.receiving.specs.Receive.{Receipt, land, opening, gateOf, receiveAt, receiveBy, receiveOf}
 use Rattle.estack.specs.Sends.{Sent, granted, ownedSend, givenSend, tagSend, startSendOf}
 
 pub next-clock : (s : EventStamp) → next s .clock ≡ s .clock

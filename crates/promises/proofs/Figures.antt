@@ -13,7 +13,7 @@ use Rattle.reassemble.specs.Enter.{isLocal, opening, gate, gateEmpty, enter, ap
 use Rattle.fragment.specs.Step.{newOf, stepOf}
 use Rattle.fragment.specs.Run.{written}
 use Rattle.tables.specs.Walks.{leastLeft, anyExpired}
-use Rattle.estack.specs.Receive.{nextIssue, land, receiveAt, receiveBy, receiveOf}
+use Rattle.receiving.specs.Receive.{nextIssue, land, receiveAt, receiveBy, receiveOf}
 use Rattle.estack.specs.Sends.{granted, ownedSend, tagSend, startSendOf}
 use Rattle.estack.specs.Update.{checked, updateOf}
 use Rattle.promises.specs.Calls.{step}

@@ -22,7 +22,7 @@ use Rattle.reassemble.specs.Slot.{blankSlot, isEmpty, emptyState, collects}
 use Rattle.reassemble.specs.Enter.{appended}
 use Rattle.fragment.specs.Cutting.{bodyIn}
 use Rattle.state.specs.Stack.{Stack, slotAt}
-use Rattle.estack.specs.Receive.{Receipt}
+use Rattle.receiving.specs.Receive.{Receipt}
 use Rattle.promises.specs.Calls.{World, Call, step, hasKey, permitted}
 use Rattle.promises.proofs.Facts.{no-both, same-refl}
 use Rattle.promises.proofs.Slots.{collects-key, not-in, idle-collects, parts}

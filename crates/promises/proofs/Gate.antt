@@ -24,7 +24,7 @@ use Rattle.reassemble.specs.Slot.{blankSlot, isEmpty, emptyState, collects}
 use Rattle.reassemble.specs.Search.{slotFor}
 use Rattle.reassemble.specs.Enter.{opening as admits, opened, gate, gateEmpty, gateReply}
 use Rattle.state.specs.Stack.{Stack, slotAt}
-use Rattle.estack.specs.Receive.{gateOf}
+use Rattle.receiving.specs.Receive.{gateOf}
 use Rattle.promises.specs.Delivery.{collecting, cookieFor}
 use Rattle.promises.proofs.Facts.{no-both, no-true}
 use Rattle.promises.proofs.Slots.{collects-state, collects-key, not-in, find-none}

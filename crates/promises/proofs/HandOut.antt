@@ -21,8 +21,8 @@ use Rattle.reassemble.specs.Slot.{collects}
 use Rattle.reassemble.specs.Enter.{opening, opened, gateReply, gateEmpty}
 use Rattle.fragment.specs.Cutting.{PacketIs, InTurn, bodyIn, joined, kindIn}
 use Rattle.state.specs.Stack.{slotAt}
-use Rattle.estack.specs.declared.ReceiveHandle.{ReceiveHandle}
-use Rattle.estack.specs.declared.Received.the-variants.{Message as Told}
+use Rattle.receiving.specs.declared.ReceiveHandle.{ReceiveHandle}
+use Rattle.receiving.specs.declared.Received.the-variants.{Message as Told}
 use Rattle.promises.specs.Calls.{World, Call, receive, step, steps}
 use Rattle.promises.specs.Delivery.{Message, messageAt, nextGap, laterGaps, Delivers, collecting, vacancy, cookieFor, Lawful}
 use Rattle.promises.proofs.Facts.{no-true}

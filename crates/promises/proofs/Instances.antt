@@ -23,11 +23,11 @@ use Rattle.reassemble.specs.Search.{slotFor}
 use Rattle.reassemble.specs.Enter.{isLocal, opening, gate, gateEmpty, gateReply, enter, append}
 use Rattle.tables.specs.Walks.{leastLeft}
 use Rattle.fragment.specs.Cutting.{InTurn, joined, kindIn, Carries}
-use Rattle.estack.specs.declared.Received.the-variants.{Message as Handed}
+use Rattle.receiving.specs.declared.Received.the-variants.{Message as Handed}
 use Rattle.estack.specs.declared.Send.{Send}
 use Rattle.estack.specs.declared.SendTag.the-variants.{Fresh}
 use Rattle.estack.specs.declared.SendMtu.the-variants.{Own}
-use Rattle.estack.specs.Receive.{nextIssue, land, receiveAt, receiveBy, receiveOf}
+use Rattle.receiving.specs.Receive.{nextIssue, land, receiveAt, receiveBy, receiveOf}
 use Rattle.estack.specs.Sends.{granted, ownedSend, tagSend, startSendOf}
 use Rattle.estack.specs.Update.{checked, updateOf}
 use Rattle.estack.specs.Basics.{freshStack}

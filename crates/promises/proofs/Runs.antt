@@ -13,7 +13,7 @@ use Rattle.reassemble.specs.declared.Reassembler.{Reassembler}
 use Rattle.reassemble.specs.Slot.{blankSlot, isEmpty, emptyState, collects}
 use Rattle.reassemble.specs.Enter.{outcomeOf}
 use Rattle.state.specs.Stack.{slotAt}
-use Rattle.estack.specs.Receive.{Receipt, saidOf, receiveOf}
+use Rattle.receiving.specs.Receive.{Receipt, saidOf, receiveOf}
 use Rattle.promises.specs.Calls.{World, Call, step, steps}
 use Rattle.promises.specs.Delivery.{allOf}
 use Rattle.promises.specs.History.{Taken, takes, noted, logged, history}

@@ -30,10 +30,10 @@ use Rattle.fragment.specs.declared.Fragmenter.{Fragmenter}
 use Rattle.fragment.specs.Cutting.{bodyIn}
 use Rattle.fragment.specs.Step.{Step, packetOf, emitted, stepOf}
 use Rattle.state.specs.Stack.{Stack, slotAt, flowAt}
-use Rattle.estack.specs.declared.ReceiveHandle.{ReceiveHandle}
-use Rattle.estack.specs.declared.Received.the-variants.{Message as Told}
+use Rattle.receiving.specs.declared.ReceiveHandle.{ReceiveHandle}
+use Rattle.receiving.specs.declared.Received.the-variants.{Message as Told}
 use Rattle.estack.specs.declared.Updated.the-variants.{Next, Refused}
-use Rattle.estack.specs.Receive.{Receipt, saidOf, receiveOf}
+use Rattle.receiving.specs.Receive.{Receipt, saidOf, receiveOf}
 use Rattle.tables.specs.Walks.{leastLeft, slotTimes}
 use Rattle.estack.specs.Update.{Update, interval, leastOf, checked, updateOf}
 use Rattle.estack.specs.Basics.{freeTagsOf}

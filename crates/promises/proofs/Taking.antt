@@ -19,7 +19,7 @@ use Rattle.reassemble.specs.Slot.{blankSlot, collects, collectsIn}
 use Rattle.reassemble.specs.Enter.{appended}
 use Rattle.fragment.specs.Cutting.{bodyIn}
 use Rattle.state.specs.Stack.{slotAt}
-use Rattle.estack.specs.Receive.{Receipt}
+use Rattle.receiving.specs.Receive.{Receipt}
 use Rattle.estack.specs.Handles.{messageIn}
 use Rattle.promises.specs.Calls.{World}
 use Rattle.promises.specs.Delivery.{readFrom, cookieFor}

@@ -15,10 +15,10 @@ use Rattle.reassemble.specs.declared.Reassembler.{Reassembler}
 use Rattle.reassemble.specs.Slot.{isEmpty}
 use Rattle.reassemble.specs.Enter.{outcomeOf}
 use Rattle.state.specs.Stack.{Stack}
-use Rattle.estack.specs.declared.ReceiveHandle.{ReceiveHandle}
-use Rattle.estack.specs.declared.Received.{Received}
-use Rattle.estack.specs.declared.Received.the-variants.{Message as Handed}
-use Rattle.estack.specs.Receive.{Receipt, saidOf, receiveOf}
+use Rattle.receiving.specs.declared.ReceiveHandle.{ReceiveHandle}
+use Rattle.receiving.specs.declared.Received.{Received}
+use Rattle.receiving.specs.declared.Received.the-variants.{Message as Handed}
+use Rattle.receiving.specs.Receive.{Receipt, saidOf, receiveOf}
 use Rattle.estack.specs.Handles.{messageIn}
 use Rattle.promises.specs.Calls.{Call, receive, elsewhere, update, startSend, cancelFlow, getDeferred, getDeferredByCookie, fetchMessage, finishedReceive, returnHandle, setCookie, setEid, eid, isLocalDest, freeTags, World, step, steps, receipt, hasKey}
 use Rattle.promises.specs.Delivery.{readFrom, messageAt, allOf}

@@ -24,8 +24,8 @@ use Rattle.reassemble.specs.Slot.{blankSlot, collectingState, outState, issueIs
 use Rattle.reassemble.specs.Search.{earliest}
 use Rattle.state.specs.Stack.{Stack, slotAt}
 use Rattle.tables.specs.Walks.{swept, renow}
-use Rattle.estack.specs.declared.ReceiveHandle.{ReceiveHandle}
-use Rattle.estack.specs.Receive.{nextIssue}
+use Rattle.receiving.specs.declared.ReceiveHandle.{ReceiveHandle}
+use Rattle.receiving.specs.Receive.{nextIssue}
 use Rattle.estack.specs.Handles.{Outcome, Lookup, isGood, handled, takeOf, deferredOf, bySourceOf}
 use Rattle.estack.specs.Update.{Update, checked, updateOf}
 use Rattle.estack.specs.Basics.{cancelOf}

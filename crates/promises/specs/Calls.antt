@@ -18,14 +18,14 @@ use Rattle.mctp.specs.Terms.{sameKey, sameEid, sameTag}
 use Rattle.mctp.specs.Header.{headerOf}
 use Rattle.fragment.specs.declared.Started.{Started}
 use Rattle.state.specs.Stack.{Stack}
-use Rattle.estack.specs.declared.ReceiveHandle.{ReceiveHandle}
-use Rattle.estack.specs.declared.Received.{Received}
+use Rattle.receiving.specs.declared.ReceiveHandle.{ReceiveHandle}
+use Rattle.receiving.specs.declared.Received.{Received}
 use Rattle.estack.specs.declared.Done.{Done}
 use Rattle.estack.specs.declared.Updated.{Updated}
 use Rattle.estack.specs.declared.Deferred.{Deferred}
 use Rattle.estack.specs.declared.Fetched.{Fetched}
 use Rattle.estack.specs.declared.Send.{Send}
-use Rattle.estack.specs.Receive.{Receipt, receiveOf}
+use Rattle.receiving.specs.Receive.{Receipt, receiveOf}
 use Rattle.estack.specs.Handles.{finishOf, returnOf, cookieOf, fetchOf, bySourceOf, byCookieOf}
 use Rattle.estack.specs.Sends.{startSendOf}
 use Rattle.estack.specs.Update.{updateOf}

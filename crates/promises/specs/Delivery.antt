@@ -21,9 +21,9 @@ use Rattle.reassemble.specs.Slot.{isEmpty, collects}
 use Rattle.reassemble.specs.Enter.{isLocal}
 use Rattle.state.specs.Stack.{Stack, slotAt}
 use Rattle.fragment.specs.Cutting.{Carries}
-use Rattle.estack.specs.declared.ReceiveHandle.{ReceiveHandle}
-use Rattle.estack.specs.declared.Received.{Received}
-use Rattle.estack.specs.declared.Received.the-variants.{More, Message as Told}
+use Rattle.receiving.specs.declared.ReceiveHandle.{ReceiveHandle}
+use Rattle.receiving.specs.declared.Received.{Received}
+use Rattle.receiving.specs.declared.Received.the-variants.{More, Message as Told}
 use Rattle.estack.specs.declared.Message.{Message as Facts}
 use Rattle.estack.specs.Handles.{messageIn}
 use Rattle.promises.specs.Calls.{World, Call, receive, step, steps, receipt, permitted}

@@ -11,7 +11,7 @@ use Rattle.reassemble.specs.declared.Reassembler.{Reassembler}
 use Rattle.state.proofs.StackLaws.{slots-length}
 use Rattle.estack.specs.Handles.{fetchOf, messageIn}
 use Rattle.estack.specs.declared.Fetched.the-variants.{Message as Fetch}
-use Rattle.estack.proofs.SizeLaws.{pool-fits}
+use Rattle.receiving.proofs.SizeLaws.{pool-fits}
 use Rattle.estack.proofs.HandleLaws.{good-in}
 use Rattle.estack.proofs.handles.fetch_message.Statement.{statement}
 use Rattle.estack.proofs.handles.fetch_message.Tie as tie

@@ -5,7 +5,7 @@ use borrow.Author.Needs.{needs}
 use Rattle.reassemble.specs.Slot.{restated}
 use Rattle.reassemble.specs.declared.Reassembler.{Reassembler}
 use Rattle.reassemble.specs.declared.State.the-variants.{HandleOut}
-use Rattle.estack.specs.Receive.{nextIssue}
+use Rattle.receiving.specs.Receive.{nextIssue}
 use Rattle.estack.proofs.HandleLaws.{restated-ok, taken, not-taken}
 use Rattle.estack.proofs.handles.take.Statement.{statement}
 use Rattle.estack.proofs.handles.take.Tie as tie

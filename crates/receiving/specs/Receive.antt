@@ -1,0 +1,113 @@
+-- Document 01, "Reassembler", receive: PoolShort first; then the slot, NoSpace before any look at the header; then steps 2 to 6. B is the most that a
+-- body holds; slot i keeps its body from byte B i of the pool. The answer holds the stack after the call, what is said, and the one write to the pool.
+-- Leans on `reassemble` for one slot's part, on `flows` for the reply's flow.
+use Prim.Native.Nat.{ℕ, _+_, _*_}
+use mathlib.Core.Path.{_≡_}
+use mathlib.Core.Bool.{Bool, true, false}
+use mathlib.Core.List.{List, []}
+use lib.Dec.{ltb}
+use lib.ListN.{length, drop}
+use Rattle.octets.specs.Pick.{pick}
+use Rattle.octets.specs.Bytes.{over}
+use Rattle.mctp.specs.declared.Key.{Key}
+use Rattle.mctp.specs.declared.Header.{Header}
+use Rattle.mctp.specs.declared.HeaderRead.{HeaderRead}
+use Rattle.mctp.specs.declared.HeaderRead.the-variants.{Good, Bad}
+use Rattle.mctp.specs.declared.Error.{Error}
+use Rattle.mctp.specs.declared.Error.the-variants.{InvalidInput, NoSpace, PoolShort}
+use Rattle.mctp.specs.Header.{headerOf}
+use Rattle.flows.specs.declared.Flow.{Flow}
+use Rattle.flows.specs.Table.{standing, flowCookie, removed}
+use Rattle.reassemble.specs.declared.Outcome.{Outcome}
+use Rattle.reassemble.specs.declared.Outcome.the-variants.{More as Going, Whole, Freed}
+use Rattle.reassemble.specs.declared.Entry.{Entry}
+use Rattle.reassemble.specs.declared.Gate.{Gate}
+use Rattle.reassemble.specs.declared.Gate.the-variants.{Shut, Pass}
+use Rattle.reassemble.specs.Slot.{isEmpty}
+use Rattle.reassemble.specs.Search.{slotFor}
+use Rattle.reassemble.specs.Enter.{gate, enter}
+use Rattle.state.specs.Head.{reissued}
+use Rattle.state.specs.declared.Sizes.{Sizes}
+use Rattle.state.specs.Stack.{Stack, Becomes, slotAt, reslot}
+use Rattle.tables.specs.Walks.{ticked}
+use Rattle.receiving.specs.declared.ReceiveHandle.{ReceiveHandle}
+use Rattle.receiving.specs.declared.Received.{Received}
+use Rattle.receiving.specs.declared.Received.the-variants.{More, Message, Refused}
+
+pub record Receipt : Type 0 where
+  pub stack : Stack
+  pub said : Received
+  pub at : ℕ
+  pub bytes : List ℕ
+
+-- a refusal writes nothing
+abbrev pub refuse : Error → Stack → Receipt
+refuse err st = record { stack = st; said = Refused err; at = 0; bytes = [] }
+
+-- the number of the next handle that goes out: one count for the whole stack, staying at 2^64 - 1
+unfoldable pub nextIssue : ℕ → ℕ
+nextIssue n = pick (ltb n 18446744073709551615) (n + 1) n
+
+abbrev pub saidOf : Outcome → ℕ → ℕ → Received
+saidOf Going i issue = More
+saidOf Whole i issue = Message (record { index = i; issue = issue })
+saidOf (Freed err) i issue = Refused err
+
+-- step 6: with EOM, if TO=0 the flow is removed, and if it has gone already nothing happens
+abbrev pub flowsAfter : Outcome → Key → List Flow → List Flow
+flowsAfter Going k flows = flows
+flowsAfter Whole k flows = pick (k .owner) flows (removed (k .source) (k .tag) flows)
+flowsAfter (Freed err) k flows = flows
+
+-- a handle that goes out takes the next number
+abbrev pub issueAfter : Outcome → ℕ → ℕ
+issueAfter Going n = n
+issueAfter Whole n = nextIssue n
+issueAfter (Freed err) n = n
+
+-- what a packet's outcome makes of the stack beside its slot
+abbrev pub concluded : Outcome → Key → Stack → Stack
+concluded o k st = record { head = reissued (issueAfter o (st .head .issue)) (st .head); flows = flowsAfter o k (st .flows); slots = st .slots }
+
+-- one store of one slot, one write to the pool, then the flow
+abbrev pub settled : ℕ → ℕ → Stack → Key → List ℕ → Entry → Receipt
+settled B i st k p e = record {
+  stack = concluded (e .outcome) k (reslot i (e .slot) st);
+  said = saidOf (e .outcome) i (nextIssue (st .head .issue));
+  at = B * i + e .at;
+  bytes = drop (e .from) p;
+}
+
+-- step 3: one event is counted, and the packet enters the slot
+unfoldable pub land : ℕ → ℕ → Stack → Header → List ℕ → Gate → Receipt
+land B i st h p (Shut err) = refuse err st
+land B i st h p (Pass s) =
+    settled B i (ticked st) (h .key) p (enter B (ticked st .head .now) (nextIssue (st .head .issue)) s h p)
+
+-- step 2: for an empty slot one event is counted
+abbrev pub opening : Bool → Stack → Stack
+opening empty st = pick empty (ticked st) st
+
+abbrev pub gateOf : ℕ → Stack → Header → Gate
+gateOf i st h =
+    gate (st .head .«own_eid») (slotAt i st) h (standing (h .key .source) (h .key .tag) (st .flows)) (flowCookie (h .key .source) (h .key .tag) (st .flows))
+
+-- a bad header comes to an empty slot alone
+unfoldable pub receiveAt : ℕ → ℕ → Stack → List ℕ → HeaderRead → Receipt
+receiveAt B i st p Bad = refuse InvalidInput (opening (isEmpty (slotAt i st)) st)
+receiveAt B i st p (Good h) = land B i (opening (isEmpty (slotAt i st)) st) h p (gateOf i st h)
+
+-- step 1
+unfoldable pub receiveBy : ℕ → Stack → List ℕ → HeaderRead → Receipt
+receiveBy B st p r =
+    pick (ltb (slotFor r (st .slots)) (length (st .slots))) (receiveAt B (slotFor r (st .slots)) st p r) (refuse NoSpace st)
+
+-- `room` is the length of the pool that is lent
+unfoldable pub receiveOf : ℕ → Stack → ℕ → List ℕ → Receipt
+receiveOf B st room p = pick (ltb room (B * length (st .slots))) (refuse PoolShort st) (receiveBy B st p (headerOf p))
+
+-- what a receive makes of the bytes of state and pool: what is said, the stack that is then held, the one write
+pub record Makes (z : Sizes) (rc : Receipt) (r : Received) (b b′ pool pool′ : List ℕ) : Type 0 where
+  pub said : r ≡ rc .said
+  pub stack : Becomes z b b′ (rc .stack)
+  pub bytes : pool′ ≡ over (rc .at) (rc .bytes) pool

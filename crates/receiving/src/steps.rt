@@ -1,0 +1,207 @@
+// Receive: find the slot, gate, enter, settle: one store of one slot, one write to the pool, then the flow.
+ghost use mathlib.Core.Path.{_≡_};
+ghost use Prim.Native.Nat.{_+_, _*_, _≤_, _<_};
+ghost use lib.ListN.{length};
+ghost use mathlib.Core.Bool.{true};
+ghost use Rattle.mctp.specs.declared.HeaderRead.the-variants.{Good, Bad};
+ghost use Rattle.reassemble.specs.declared.Gate.the-variants.{Pass};
+ghost use Rattle.reassemble.specs.declared.Outcome.the-variants.{Whole};
+ghost use Rattle.reassemble.specs.Slot.{isEmpty};
+ghost use Rattle.reassemble.specs.Enter.{gateEmpty, gateReply, Planned};
+ghost use Rattle.flows.specs.Table.{standing, flowCookie};
+ghost use Rattle.state.specs.Slot.{SlotOk};
+ghost use Rattle.state.specs.Stack.{Kept, Becomes, stackOf, slotAt};
+ghost use Rattle.tables.specs.Walks.{reflows};
+ghost use Rattle.receiving.specs.Receive.{receiveOf, receiveBy, receiveAt, land, settled, concluded, saidOf, flowsAfter, nextIssue, Makes};
+use crate::ReceiveHandle;
+use crate::Received;
+use crate::issue::next_issue;
+use mctp::Cookie;
+use mctp::Error;
+use mctp::Header;
+use mctp::HeaderRead;
+use mctp::Key;
+use reassemble::Entry;
+use reassemble::Gate;
+use reassemble::Outcome;
+use reassemble::Reassembler;
+use state::Sizes;
+
+// Receives a packet.
+pub fn receive(state: &mut [u8], sizes: Sizes, pool: &mut [u8], packet: &[u8]) -> Received
+    requires { ⌜ Kept sizes (now state) ⌝ }
+    ensures { λ r. ⌜ Makes sizes (receiveOf (sizes .body) (stackOf sizes (now (state .entry))) (length (now (pool .entry))) (now (packet .entry))) r (now (state .entry)) (now (state .exit)) (now (pool .entry)) (now (pool .exit)) ⌝ }
+{
+    if pool.len() < sizes.body * sizes.slots {
+        return Received::Refused(Error::PoolShort);
+    }
+    match mctp::read_header(packet) {
+        HeaderRead::Good(h) => receive_good(state, sizes, pool, packet, h),
+        HeaderRead::Bad => receive_bad(state, sizes, packet),
+    }
+}
+
+// A bad header matches no slot, and takes the empty slot's way.
+fn receive_bad(state: &mut [u8], sizes: Sizes, packet: &[u8]) -> Received
+    requires { ⌜ Kept sizes (now state) ⌝ }
+    ensures { λ r. ⌜ (r ≡ receiveBy (sizes .body) (stackOf sizes (now (state .entry))) (now (packet .entry)) Bad .said) × Becomes sizes (now (state .entry)) (now (state .exit)) (receiveBy (sizes .body) (stackOf sizes (now (state .entry))) (now (packet .entry)) Bad .stack) ⌝ }
+{
+    let empty = tables::find_empty(state, sizes);
+    if empty < sizes.slots {
+        tables::tick(state, sizes);
+        return Received::Refused(Error::InvalidInput);
+    }
+    Received::Refused(Error::NoSpace)
+}
+
+fn receive_good(
+    state: &mut [u8],
+    sizes: Sizes,
+    pool: &mut [u8],
+    packet: &[u8],
+    h: Header,
+) -> Received
+    requires { ⌜ Kept sizes (now state) × (h .key .tag .0 < 8) × (h .seq < 4) × (4 ≤ length (now packet)) × (sizes .body * sizes .slots ≤ length (now pool)) ⌝ }
+    ensures { λ r. ⌜ Makes sizes (receiveBy (sizes .body) (stackOf sizes (now (state .entry))) (now (packet .entry)) (Good h)) r (now (state .entry)) (now (state .exit)) (now (pool .entry)) (now (pool .exit)) ⌝ }
+{
+    let i = tables::find_collecting(state, sizes, h.key);
+    if i < sizes.slots {
+        let s = state::slot_at(state, sizes, i);
+        return enter(state, sizes, pool, packet, h, i, s);
+    }
+    let j = tables::find_empty(state, sizes);
+    if j < sizes.slots {
+        return open(state, sizes, pool, packet, h, j);
+    }
+    Received::Refused(Error::NoSpace)
+}
+
+// Step 2: an empty slot counts one event, and asks what it asks.
+fn open(
+    state: &mut [u8],
+    sizes: Sizes,
+    pool: &mut [u8],
+    packet: &[u8],
+    h: Header,
+    i: usize,
+) -> Received
+    requires { ⌜ Kept sizes (now state) × (h .key .tag .0 < 8) × (h .seq < 4) × (4 ≤ length (now packet)) × (sizes .body * sizes .slots ≤ length (now pool)) × (i < sizes .slots) × (isEmpty (slotAt i (stackOf sizes (now state))) ≡ true) ⌝ }
+    ensures { λ r. ⌜ Makes sizes (receiveAt (sizes .body) i (stackOf sizes (now (state .entry))) (now (packet .entry)) (Good h)) r (now (state .entry)) (now (state .exit)) (now (pool .entry)) (now (pool .exit)) ⌝ }
+{
+    let gate = gate_at(state, sizes, h);
+    tables::tick(state, sizes);
+    match gate {
+        Gate::Shut(err) => Received::Refused(err),
+        Gate::Pass(s) => enter(state, sizes, pool, packet, h, i, s),
+    }
+}
+
+fn gate_at(state: &[u8], sizes: Sizes, h: Header) -> Gate
+    requires { ⌜ Kept sizes (now state) ⌝ }
+    ensures { λ r. ⌜ r ≡ gateEmpty (stackOf sizes (now (state .entry)) .head .«own_eid») h (standing (h .key .source) (h .key .tag) (stackOf sizes (now (state .entry)) .flows)) (flowCookie (h .key .source) (h .key .tag) (stackOf sizes (now (state .entry)) .flows)) ⌝ }
+{
+    let own = state::own_eid(state, sizes);
+    if reassemble::opens(own, h) {
+        if h.key.owner {
+            return Gate::Pass(reassemble::open(h, Cookie::Absent));
+        }
+        return gate_by_flow(state, sizes, h);
+    }
+    Gate::Shut(Error::InvalidInput)
+}
+
+// A reply asks for its flow.
+fn gate_by_flow(state: &[u8], sizes: Sizes, h: Header) -> Gate
+    requires { ⌜ Kept sizes (now state) ⌝ }
+    ensures { λ r. ⌜ r ≡ gateReply h (standing (h .key .source) (h .key .tag) (stackOf sizes (now (state .entry)) .flows)) (flowCookie (h .key .source) (h .key .tag) (stackOf sizes (now (state .entry)) .flows)) ⌝ }
+{
+    let source = h.key.source;
+    let tag = h.key.tag;
+    let i = tables::find_flow(state, sizes, source, tag);
+    if i < state::FLOW_COUNT {
+        let f = state::flow_at(state, sizes, i);
+        let cookie = f.cookie;
+        return reassemble::gate_reply(h, true, cookie);
+    }
+    reassemble::gate_reply(h, false, Cookie::Absent)
+}
+
+// Steps 3 to 6: one event is counted, and the packet enters slot i, which is s.
+fn enter(
+    state: &mut [u8],
+    sizes: Sizes,
+    pool: &mut [u8],
+    packet: &[u8],
+    h: Header,
+    i: usize,
+    s: Reassembler,
+) -> Received
+    requires { ⌜ Kept sizes (now state) × (h .key .tag .0 < 8) × (h .seq < 4) × (4 ≤ length (now packet)) × (sizes .body * sizes .slots ≤ length (now pool)) × (i < sizes .slots) × SlotOk (sizes .body) s ⌝ }
+    ensures { λ r. ⌜ Makes sizes (land (sizes .body) i (stackOf sizes (now (state .entry))) h (now (packet .entry)) (Pass s)) r (now (state .entry)) (now (state .exit)) (now (pool .entry)) (now (pool .exit)) ⌝ }
+{
+    let stamp = tables::tick(state, sizes);
+    let issue = next_issue(state::issue_at(state, sizes));
+    let e = reassemble::receive(s, h, packet, stamp, issue, sizes.body);
+    settle(state, sizes, pool, packet, h.key, i, issue, e)
+}
+
+// One store of one slot, one write to the pool, then the flow.
+fn settle(
+    state: &mut [u8],
+    sizes: Sizes,
+    pool: &mut [u8],
+    packet: &[u8],
+    key: Key,
+    i: usize,
+    issue: u64,
+    e: Entry,
+) -> Received
+    requires { ⌜ Kept sizes (now state) × (i < sizes .slots) × (sizes .body * sizes .slots ≤ length (now pool)) × Planned e (length (now packet)) (sizes .body) × SlotOk (sizes .body) (e .slot) × (issue ≡ nextIssue (stackOf sizes (now state) .head .issue)) ⌝ }
+    ensures { λ r. ⌜ Makes sizes (settled (sizes .body) i (stackOf sizes (now (state .entry))) key (now (packet .entry)) e) r (now (state .entry)) (now (state .exit)) (now (pool .entry)) (now (pool .exit)) ⌝ }
+{
+    let slot = e.slot;
+    state::put_slot(state, sizes, i, slot);
+    let outcome = e.outcome;
+    let said = conclude(state, sizes, key, i, issue, outcome);
+    let at = sizes.body * i + e.at;
+    let from = e.from;
+    copying::copy(&mut pool[at..], &packet[from..]);
+    said
+}
+
+// What is said, and with a whole message its handle's number and its flow's end.
+fn conclude(
+    state: &mut [u8],
+    sizes: Sizes,
+    key: Key,
+    i: usize,
+    issue: u64,
+    outcome: Outcome,
+) -> Received
+    requires { ⌜ Kept sizes (now state) × (issue ≡ nextIssue (stackOf sizes (now state) .head .issue)) ⌝ }
+    ensures { λ r. ⌜ (r ≡ saidOf outcome i issue) × Becomes sizes (now (state .entry)) (now (state .exit)) (concluded outcome key (stackOf sizes (now (state .entry)))) ⌝ }
+{
+    match outcome {
+        Outcome::More => Received::More,
+        Outcome::Whole => {
+            state::put_issue(state, sizes, issue);
+            close(state, sizes, key);
+            Received::Message(ReceiveHandle {
+                index: i,
+                issue: issue,
+            })
+        }
+        Outcome::Freed(err) => Received::Refused(err),
+    }
+}
+
+// A reply that is whole ends its flow.
+fn close(state: &mut [u8], sizes: Sizes, key: Key)
+    requires { ⌜ Kept sizes (now state) ⌝ }
+    ensures { λ _. ⌜ Becomes sizes (now (state .entry)) (now (state .exit)) (reflows (flowsAfter Whole key (stackOf sizes (now (state .entry)) .flows)) (stackOf sizes (now (state .entry)))) ⌝ }
+{
+    if key.owner {
+        return;
+    }
+    tables::remove_flow(state, sizes, key.source, key.tag);
+}
