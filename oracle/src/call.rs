@@ -75,7 +75,7 @@ pub enum Answer {
     Number(u8),
     Local(bool),
     Started(Result<FragmenterView, Refusal>),
-    /// With the whole packet buffer and the fragmenter afterwards.
+    /// With the whole packet buffer, its tail, and the fragmenter afterwards.
     Stepped(Step, Vec<u8>, FragmenterView),
     Updated(Result<(u64, bool), Refusal>),
     Received(Result<Received, Refusal>),

@@ -14,23 +14,83 @@ struct Style {
     long_bodies: bool,
     /// One flow in so many expires.
     expires: usize,
+    /// Replies come in beside each other, and their flows go and come back under them.
+    replies: bool,
 }
 
-const STYLES: [Style; 7] = [
+const STYLES: [Style; 8] = [
     // A little of everything.
-    Style { weights: [30, 12, 10, 8, 5, 4, 4, 6, 5, 3, 3, 2, 4], peers: 3, tags: 3, long_bodies: false, expires: 2 },
+    Style {
+        weights: [30, 12, 10, 8, 5, 4, 4, 6, 5, 3, 3, 2, 4],
+        peers: 3,
+        tags: 3,
+        long_bodies: false,
+        expires: 2,
+        replies: false,
+    },
     // Messages are kept, so the slots fill up.
-    Style { weights: [40, 10, 2, 6, 5, 4, 3, 2, 5, 3, 3, 3, 2], peers: 2, tags: 2, long_bodies: false, expires: 2 },
+    Style {
+        weights: [40, 10, 2, 6, 5, 4, 3, 2, 5, 3, 3, 3, 2],
+        peers: 2,
+        tags: 2,
+        long_bodies: false,
+        expires: 2,
+        replies: false,
+    },
     // The flow table fills up.
-    Style { weights: [8, 70, 6, 2, 1, 1, 1, 2, 1, 1, 2, 1, 4], peers: 12, tags: 8, long_bodies: false, expires: 8 },
+    Style {
+        weights: [8, 70, 6, 2, 1, 1, 1, 2, 1, 1, 2, 1, 4],
+        peers: 12,
+        tags: 8,
+        long_bodies: false,
+        expires: 8,
+        replies: false,
+    },
     // The tags of one peer run out.
-    Style { weights: [20, 40, 6, 5, 3, 3, 2, 4, 3, 2, 4, 1, 6], peers: 1, tags: 8, long_bodies: false, expires: 2 },
+    Style {
+        weights: [20, 40, 6, 5, 3, 3, 2, 4, 3, 2, 4, 1, 6],
+        peers: 1,
+        tags: 8,
+        long_bodies: false,
+        expires: 2,
+        replies: false,
+    },
     // Long messages out and in.
-    Style { weights: [45, 8, 25, 3, 2, 2, 4, 9, 2, 1, 1, 1, 1], peers: 2, tags: 2, long_bodies: true, expires: 2 },
+    Style {
+        weights: [45, 8, 25, 3, 2, 2, 4, 9, 2, 1, 1, 1, 1],
+        peers: 2,
+        tags: 2,
+        long_bodies: true,
+        expires: 2,
+        replies: false,
+    },
     // The clock moves much.
-    Style { weights: [25, 14, 2, 32, 6, 4, 2, 3, 7, 2, 2, 1, 1], peers: 2, tags: 3, long_bodies: false, expires: 1 },
+    Style {
+        weights: [25, 14, 2, 32, 6, 4, 2, 3, 7, 2, 2, 1, 1],
+        peers: 2,
+        tags: 3,
+        long_bodies: false,
+        expires: 1,
+        replies: false,
+    },
     // Messages of one peer and tag are given back and asked for again.
-    Style { weights: [40, 14, 1, 4, 12, 8, 2, 2, 14, 5, 3, 2, 1], peers: 1, tags: 1, long_bodies: false, expires: 2 },
+    Style {
+        weights: [40, 14, 1, 4, 12, 8, 2, 2, 14, 5, 3, 2, 1],
+        peers: 1,
+        tags: 1,
+        long_bodies: false,
+        expires: 2,
+        replies: false,
+    },
+    // Replies of one peer, in several slots at a time.
+    Style {
+        weights: [50, 14, 1, 6, 4, 3, 2, 8, 9, 2, 6, 2, 1],
+        peers: 1,
+        tags: 2,
+        long_bodies: false,
+        expires: 3,
+        replies: true,
+    },
 ];
 
 const STACK_MTUS: [usize; 10] = [5, 6, 9, 64, 64, 255, 255, 256, 300, usize::MAX];
@@ -69,6 +129,8 @@ pub struct Generator {
     rng: Rng,
     style: &'static Style,
     everything: bool,
+    /// For a stored list: one fragmenter, payloads of at most 2,048 bytes, counters from 0.
+    plain: bool,
     /// Seed and length of the payload that each kept fragmenter cuts.
     payloads: [(u8, usize); KEPT],
 }
@@ -78,7 +140,12 @@ impl Generator {
     pub fn new(seed: u64, everything: bool) -> Self {
         let mut rng = Rng::new(seed);
         let style = &STYLES[rng.below(STYLES.len())];
-        Self { rng, style, everything, payloads: [(0, 0); KEPT] }
+        Self { rng, style, everything, plain: false, payloads: [(0, 0); KEPT] }
+    }
+
+    /// Calls that a stored list can hold.
+    pub fn plain(seed: u64, everything: bool) -> Self {
+        Self { plain: true, ..Self::new(seed, everything) }
     }
 
     /// How many calls the episode has.
@@ -93,7 +160,7 @@ impl Generator {
             2 => 50,
             _ => 0,
         };
-        let preset = self.rng.one_in(10);
+        let preset = self.rng.one_in(6) && !self.plain;
         let left = if self.odd(2) { 0 } else { self.rng.byte() % 32 };
         Call::New {
             own: self.rng.pick(&OWN_EIDS),
@@ -125,6 +192,14 @@ impl Generator {
     /// Once in `n` where calls outside the domain are wanted.
     fn odd(&mut self, n: usize) -> bool {
         self.everything && self.rng.one_in(n)
+    }
+
+    fn kept(&self) -> usize {
+        if self.plain {
+            1
+        } else {
+            KEPT
+        }
     }
 
     fn last_clock(&self) -> u64 {
@@ -176,7 +251,8 @@ impl Generator {
             Some(slot) if !self.rng.one_in(3) => self.for_slot(slot),
             _ => self.opening(state),
         };
-        let packet = if self.rng.one_in(16) { self.spoilt(packet) } else { packet };
+        let full = state.slots.iter().all(Option::is_some);
+        let packet = if self.rng.one_in(if full { 8 } else { 16 }) { self.spoilt(packet) } else { packet };
         Call::Receive { packet, lent: self.lent() }
     }
 
@@ -188,7 +264,7 @@ impl Generator {
             dest: slot.dest,
             source: slot.source,
             tag: slot.tag,
-            som: self.rng.one_in(8),
+            som: self.rng.one_in(if self.style.replies { 4 } else { 8 }),
             eom: self.rng.one_in(4),
             sequence: if out_of_turn { self.rng.byte() % 4 } else { expect },
         };
@@ -199,7 +275,11 @@ impl Generator {
             _ => self.body_len(),
         };
         let body = self.rng.bytes(len);
-        packet.bytes(self.rng.byte(), &body)
+        let mut bytes = packet.bytes(self.rng.byte(), &body);
+        if packet.som && self.rng.one_in(6) {
+            bytes.truncate(4);
+        }
+        bytes
     }
 
     /// A packet that may open a slot: a request, or a reply with or without a flow.
@@ -207,7 +287,8 @@ impl Generator {
         let flow = self.rng.pick_of(state.flows.iter());
         let slot = self.rng.pick_of(state.slots.iter().flatten());
         let dest = self.dest(state);
-        let (dest, source, tag) = match (self.rng.below(8), flow, slot) {
+        let kind = if self.style.replies { self.rng.pick(&[0, 0, 3, 3, 4, 5]) } else { self.rng.below(8) };
+        let (dest, source, tag) = match (kind, flow, slot) {
             (0..=2, Some(f), _) => (dest, f.peer, Tag { owner: false, value: f.tag }),
             // Beside a message of that peer and tag, maybe to the other destination.
             (3, _, Some(s)) => (self.rng.pick(&[0, state.own]), s.source, s.tag),
@@ -260,17 +341,18 @@ impl Generator {
     // Send
 
     fn start_send(&mut self, state: &Snapshot) -> Call {
-        let keep = self.rng.below(KEPT);
+        let keep = self.rng.below(self.kept());
         let len = match self.rng.below(8) {
             0 => 0,
             1 => 1032,
-            2 => self.rng.below(3000),
+            2 => self.rng.below(if self.plain { 2000 } else { 3000 }),
             _ => self.rng.below(40),
         };
         self.payloads[keep] = (self.rng.byte(), len);
         let flow = self.rng.pick_of(state.flows.iter());
         let reply = self.rng.pick_of(state.slots.iter().flatten().filter(|s| !s.tag.owner));
-        let (dest, tag) = match (self.rng.below(10), flow, reply) {
+        let kind = if self.style.replies { self.rng.pick(&[0, 1, 1, 1, 2, 4, 5]) } else { self.rng.below(10) };
+        let (dest, tag) = match (kind, flow, reply) {
             (0, Some(f), _) => (f.peer, TagWish::Owned(f.tag)),
             (1, _, Some(s)) => (s.source, TagWish::Owned(s.tag.value)),
             (1..=3, ..) => (self.peer(), TagWish::Owned(self.tag())),
@@ -292,7 +374,7 @@ impl Generator {
     fn fragment(&mut self, fragmenters: &[Option<FragmenterView>; KEPT]) -> Call {
         let busy = |i: &usize| fragmenters[*i].is_some_and(|f| !f.done);
         let unfinished = if self.rng.one_in(6) { None } else { self.rng.pick_of((0..KEPT).filter(busy)) };
-        let which = unfinished.unwrap_or_else(|| self.rng.below(KEPT));
+        let which = unfinished.unwrap_or_else(|| self.rng.below(self.kept()));
         let (seed, kept_len) = self.payloads[which];
         let used = fragmenters[which].map_or(0, |f| f.used);
         let len = match self.rng.below(24) {
@@ -301,7 +383,8 @@ impl Generator {
             2 => kept_len + 1,
             _ => kept_len,
         };
-        let room = if self.rng.one_in(3) { self.rng.pick(&ROOMS) } else { 260 };
+        let few = if self.style.long_bodies { 8 } else { 3 };
+        let room = if self.rng.one_in(few) { self.rng.pick(&ROOMS) } else { 260 };
         Call::Fragment { which, seed, len, room }
     }
 

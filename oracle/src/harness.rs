@@ -5,28 +5,31 @@ use crate::domain;
 use crate::port::*;
 use std::fmt::Debug;
 
-const TAIL: usize = 32;
-const FILL: u8 = 0xa5;
+/// Bytes behind what is lent.
+pub const TAIL: usize = 32;
+/// What packet buffers hold before a step.
+pub const FILL: u8 = 0xa5;
 
 /// One port with what it is lent.
-struct Side<P: Port> {
+pub struct Side<P: Port> {
     port: Option<P>,
     fragmenters: [Option<P::Fragmenter>; KEPT],
-    pool: Vec<u8>,
-    other: Vec<u8>,
+    pub pool: Vec<u8>,
+    pub other: Vec<u8>,
 }
 
 impl<P: Port> Side<P> {
-    fn new() -> Self {
-        let pool = vec![FILL; POOL + TAIL];
+    /// No stack yet; pools of `fill`.
+    pub fn new(fill: u8) -> Self {
+        let pool = vec![fill; POOL + TAIL];
         Self { port: None, fragmenters: Default::default(), other: pool.clone(), pool }
     }
 
-    fn snapshot(&self) -> Option<Snapshot> {
+    pub fn snapshot(&self) -> Option<Snapshot> {
         self.port.as_ref().map(|p| p.snapshot(&self.pool))
     }
 
-    fn apply(&mut self, call: &Call) -> Answer {
+    pub fn apply(&mut self, call: &Call) -> Answer {
         match *call {
             Call::New { own, mtu, clock, counter, issues } => self.start(own, mtu, clock, counter, issues),
             Call::Fragment { which, seed, len, room } => self.fragment(which, &payload(seed, len), room),
@@ -41,10 +44,11 @@ impl<P: Port> Side<P> {
         }))
     }
 
-    fn fragment(&mut self, which: usize, payload: &[u8], room: usize) -> Answer {
+    /// The packet buffer has a tail that the step is not lent.
+    pub fn fragment(&mut self, which: usize, payload: &[u8], room: usize) -> Answer {
         let Some(fragmenter) = &mut self.fragmenters[which] else { return Answer::Nothing };
-        let mut out = vec![FILL; room];
-        let step = P::fragment(fragmenter, payload, &mut out);
+        let mut out = vec![FILL; room + TAIL];
+        let step = P::fragment(fragmenter, payload, &mut out[..room]);
         Answer::Stepped(step, out, P::view(fragmenter))
     }
 
@@ -105,7 +109,7 @@ pub struct Harness<A: Port, B: Port> {
 impl<A: Port, B: Port> Harness<A, B> {
     /// With `in_domain`, calls outside the domain of equality are passed over.
     pub fn new(in_domain: bool) -> Self {
-        Self { left: Side::new(), right: Side::new(), in_domain, state: None, fragmenters: [None; KEPT] }
+        Self { left: Side::new(FILL), right: Side::new(FILL), in_domain, state: None, fragmenters: [None; KEPT] }
     }
 
     /// The state of both, once there is a stack.

@@ -1,6 +1,7 @@
 //! How often each answer of each call, and each situation worth trying, came up.
 
 use crate::call::{Answer, Call};
+use crate::cover::{ANSWERS, SITUATIONS};
 use crate::domain::is_genuine;
 use crate::port::*;
 use std::collections::BTreeMap;
@@ -30,6 +31,13 @@ impl Tally {
         }
     }
 
+    /// The answers and situations that have not come up.
+    pub fn missing(&self) -> Vec<String> {
+        let answers = ANSWERS.iter().filter(|(call, kind)| !self.answers.contains_key(&(*call, *kind)));
+        let situations = SITUATIONS.iter().filter(|name| !self.situations.contains_key(*name));
+        answers.map(|(call, kind)| format!("{call}: {kind}")).chain(situations.map(|s| s.to_string())).collect()
+    }
+
     fn mark(&mut self, name: &'static str, seen: bool) {
         if seen {
             *self.situations.entry(name).or_default() += 1;
@@ -46,7 +54,10 @@ impl Tally {
                 let collecting = scene.before.slots.iter().flatten().any(is_collecting);
                 self.mark("set_eid: while a slot collects", collecting && scene.answer.refusal().is_none());
             }
-            Call::Cancel { .. } => self.cancel(scene),
+            Call::Cancel { source, tag } => {
+                let reply = Tag { owner: false, value: *tag };
+                self.cancel(scene, |s| s.source == *source && s.tag == reply);
+            }
             Call::GetDeferred { source, tag } => {
                 self.deferred(scene, |s| s.source == *source && s.tag == *tag);
                 self.mark("get_deferred: tag above 7", tag.value > 7);
@@ -67,7 +78,9 @@ impl Tally {
         let full = scene.before.slots.iter().all(Option::is_some);
         self.mark("receive: no slot is empty", full);
         self.mark("receive: empty packet on a full stack", full && packet.is_empty());
-        if packet.len() < 4 || packet[0] & 0x0f != 1 || refusal == Some(Refusal::PoolShort) {
+        let bad = packet.len() < 4 || packet[0] & 0x0f != 1;
+        self.mark("receive: bad header on a full stack", full && bad && !packet.is_empty());
+        if bad || refusal == Some(Refusal::PoolShort) {
             return;
         }
         let taken = refusal.is_none();
@@ -80,6 +93,7 @@ impl Tally {
         if let Some(slot) = slot {
             let expect = Phase::Collecting { expect: packet[3] >> 4 & 3 };
             self.mark("receive: sequence error", !som && slot.phase != expect);
+            self.mark("receive: sequence goes on from 3 to 0", taken && !som && packet[3] & 0x30 == 0);
             self.mark("receive: restart by SOM", som && packet.len() > 4);
             self.mark("receive: restart of a reply whose flow is gone", som && reply && !has_flow(before));
             let other = before.flows.iter().any(|f| is_flow_of(f, packet) && f.cookie != slot.cookie);
@@ -96,12 +110,17 @@ impl Tally {
         self.mark("receive: destination 0 taken", taken && packet[1] == 0);
         self.mark("receive: reserved bits set, taken", taken && packet[0] > 15);
         self.mark("receive: source 255", packet[2] == 255);
-        if let Answer::Received(Ok(Received::Message(message, _))) = scene.answer {
-            self.mark("receive: message of 1,032", message.body.len() == BODY);
-            self.mark("receive: empty message", message.body.is_empty());
-            self.mark("receive: reply closes, flow already gone", reply && !has_flow(before));
-            self.mark("receive: reply closes and ends its flow", reply && has_flow(before));
-        }
+        self.message(packet, scene);
+    }
+
+    fn message(&mut self, packet: &[u8], scene: &Scene) {
+        let Answer::Received(Ok(Received::Message(message, _))) = scene.answer else { return };
+        self.mark("receive: message of 1,032", message.body.len() == BODY);
+        self.mark("receive: empty message", message.body.is_empty());
+        let reply = packet[3] & 0x08 == 0;
+        let has_flow = scene.before.flows.iter().any(|f| is_flow_of(f, packet));
+        self.mark("receive: reply closes, flow already gone", reply && !has_flow);
+        self.mark("receive: reply closes and ends its flow", reply && has_flow);
     }
 
     fn update(&mut self, clock: u64, scene: &Scene) {
@@ -146,6 +165,10 @@ impl Tally {
             self.mark("start_send: owned tag that expires", refusal.is_some() && stands(value).is_some() && !reused);
         }
         let grown = before.flows.len() < scene.after.flows.len();
+        let refused = refusal == Some(Refusal::BadArgument);
+        let moved = before.next_seq != scene.after.next_seq;
+        self.mark("start_send: MTU 4 refused", refused && moved && mtu(send, before) == 4);
+        self.mark("start_send: MTU 256 refused", refused && moved && mtu(send, before) == 256);
         self.mark("start_send: MTU refused, flow left behind", grown && refusal == Some(Refusal::BadArgument));
     }
 
@@ -163,12 +186,14 @@ impl Tally {
         );
     }
 
-    fn cancel(&mut self, scene: &Scene) {
+    fn cancel(&mut self, scene: &Scene, is_reply: impl Fn(&SlotView) -> bool) {
         let used = |at: &Snapshot| at.slots.iter().flatten().count();
         let freed = used(scene.after) < used(scene.before);
         let stopped = scene.answer.refusal() == Some(Refusal::BadArgument);
         self.mark("cancel_flow: frees a slot", freed);
         self.mark("cancel_flow: frees one, then stops at a handle", freed && stopped);
+        let more = scene.after.slots.iter().flatten().filter(|s| is_reply(s)).count() > 1;
+        self.mark("cancel_flow: stops at a handle, more behind", stopped && more);
         self.mark("cancel_flow: removes a flow", scene.after.flows.len() < scene.before.flows.len());
     }
 
@@ -177,6 +202,8 @@ impl Tally {
         let waiting: Vec<_> = matching.iter().filter(|s| s.phase == Phase::Done { handle: None }).collect();
         let earliest = waiting.iter().map(|s| s.stamp).min();
         self.mark("deferred: one of several", waiting.len() > 1);
+        let lowest = waiting.first().map(|s| s.stamp);
+        self.mark("deferred: the earliest is not the lowest", lowest > earliest);
         self.mark("deferred: equal stamps", waiting.iter().filter(|s| Some(s.stamp) == earliest).count() > 1);
         let out = |s: &&&SlotView| matches!(s.phase, Phase::Done { handle: Some(_) });
         let passed_over = matching.iter().filter(out).any(|s| earliest.is_none_or(|e| s.stamp < e));
@@ -211,6 +238,11 @@ const AGES_COLLECTING: [&str; 3] =
     ["update: collecting, age 5,999", "update: collecting, age 6,000", "update: collecting, age 6,001"];
 const AGES_DONE: [&str; 3] = ["update: done, age 5,999", "update: done, age 6,000", "update: done, age 6,001"];
 const AGES_FLOW: [&str; 3] = ["update: flow, age 5,999", "update: flow, age 6,000", "update: flow, age 6,001"];
+
+/// The smaller MTU.
+fn mtu(send: &Send, state: &Snapshot) -> usize {
+    send.mtu.map_or(state.mtu, |m| m.min(state.mtu))
+}
 
 fn is_collecting(slot: &SlotView) -> bool {
     matches!(slot.phase, Phase::Collecting { .. })

@@ -1,5 +1,7 @@
 //! Document 01's figures from the bay, through every port.
 
+#[cfg(board)]
+use oracle::board::Board;
 use oracle::model::Model;
 use oracle::original::Original;
 use oracle::port::*;
@@ -101,4 +103,10 @@ fn original() {
 #[test]
 fn model() {
     all::<Model>();
+}
+
+#[cfg(board)]
+#[test]
+fn board() {
+    all::<Board>();
 }

@@ -23,11 +23,11 @@ module _ (s d : List ℕ) where
   moved i w p q h g = q ∙ ap (λ (y : ℕ). over i (le w y) d) p ∙ ap (λ (v : List ℕ). over i v d) (le-field i w s h (bytes-slice s g))
 
   -- two moves, the second from where the first ends
-  pub moved-on : (i n m k : ℕ) {e f : List ℕ} → e ≡ over i (part i n s) d → f ≡ over (i + n) (part (i + n) m s) e → n + m ≡ k → i + k ≤ length s → length s ≤ length d → f ≡ over i (part i k s) d
-  moved-on i n m k p q z hs hd =
+  pub moved-on : (i j n m k : ℕ) {f : List ℕ} → f ≡ over j (part j m s) (over i (part i n s) d) → i + n ≡ j → n + m ≡ k → i + k ≤ length s → length s ≤ length d → f ≡ over i (part i k s) d
+  moved-on i j n m k q y z hs hd =
       let l = length-part i n s (omega arith) in
-      let j = length-part (i + n) m s (omega arith) in
-      q ∙ ap (over (i + n) (part (i + n) m s)) p ∙ over-over i (i + n) (part i n s) (part (i + n) m s) d (omega arith) (omega arith) ∙ ap (λ (v : List ℕ). over i v d) (sym (part-add i n m s) ∙ ap (λ (w : ℕ). part i w s) z)
+      let r = length-part j m s (omega arith) in
+      q ∙ over-over i j (part i n s) (part j m s) d (omega arith) (omega arith) ∙ ap (λ (v : List ℕ). over i v d) (ap (λ (u : ℕ). part i n s ++ part u m s) (sym y) ∙ sym (part-add i n m s) ∙ ap (λ (w : ℕ). part i w s) z)
 
   pub front-zero : d ≡ front 0 s d
   unfolding front
@@ -59,3 +59,7 @@ module _ (s d : List ℕ) where
   -- the first m and the last m
   pub both-ends : (m : ℕ) {e f : List ℕ} → e ≡ over 0 (part 0 m s) d → f ≡ over (length s - m) (part (length s - m) m s) e → m ≤ length s → length s ≤ m + m → f ≡ s ++ drop (length s) d
   both-ends m p q hm h = front-last m m (front-first m p hm) q hm hm h
+
+  -- the same, where one call moves both
+  pub ends-at-once : (m : ℕ) {f : List ℕ} → f ≡ over (length s - m) (part (length s - m) m s) (over 0 (part 0 m s) d) → m ≤ length s → length s ≤ m + m → f ≡ s ++ drop (length s) d
+  ends-at-once m q hm h = both-ends m refl q hm h

@@ -1,6 +1,6 @@
-// The copying leaf: all of a slice to the front of another, by moves of 1, 2, 4, 8, 16, 32 and 64 bytes. Leans on the numbers of `octets`.
-// Each move reads all its bytes before it writes the first: a `&mut` is not marked noalias, and only so LLVM makes a move one load
-// and one store.
+// The copying leaf: all of a slice to the front of another, by moves of 1, 2, 4, 8 and 16 bytes. Leans on the numbers of `octets`.
+// A move reads all its bytes before it writes the first: a `&mut` is not marked noalias, and only so LLVM makes two moves of 8 side by
+// side one load and one store.
 ghost use mathlib.Core.Path.{_≡_};
 ghost use mathlib.Core.List.{_++_};
 ghost use Prim.Native.Nat.{_+_, _≤_, _<_};
@@ -15,98 +15,58 @@ use octets::put2;
 use octets::put4;
 use octets::put8;
 
-// 1 byte of `src` from `i`, to the same place of `dst`; and so 2, 4, .. 64.
-fn move1(dst: &mut [u8], src: &[u8], i: usize)
-    requires { ⌜ (i + 1 ≤ length (now src)) × (length (now src) ≤ length (now dst)) ⌝ }
-    ensures { λ _. ⌜ now (dst .exit) ≡ over i (part i 1 (now (src .entry))) (now (dst .entry)) ⌝ }
-{
-    put1(dst, i, get1(src, i));
-}
-
-fn move2(dst: &mut [u8], src: &[u8], i: usize)
-    requires { ⌜ (i + 2 ≤ length (now src)) × (length (now src) ≤ length (now dst)) ⌝ }
-    ensures { λ _. ⌜ now (dst .exit) ≡ over i (part i 2 (now (src .entry))) (now (dst .entry)) ⌝ }
-{
-    put2(dst, i, get2(src, i));
-}
-
-fn move4(dst: &mut [u8], src: &[u8], i: usize)
-    requires { ⌜ (i + 4 ≤ length (now src)) × (length (now src) ≤ length (now dst)) ⌝ }
-    ensures { λ _. ⌜ now (dst .exit) ≡ over i (part i 4 (now (src .entry))) (now (dst .entry)) ⌝ }
-{
-    put4(dst, i, get4(src, i));
-}
-
-fn move8(dst: &mut [u8], src: &[u8], i: usize)
-    requires { ⌜ (i + 8 ≤ length (now src)) × (length (now src) ≤ length (now dst)) ⌝ }
-    ensures { λ _. ⌜ now (dst .exit) ≡ over i (part i 8 (now (src .entry))) (now (dst .entry)) ⌝ }
-{
-    put8(dst, i, get8(src, i));
-}
-
-fn move16(dst: &mut [u8], src: &[u8], i: usize)
-    requires { ⌜ (i + 16 ≤ length (now src)) × (length (now src) ≤ length (now dst)) ⌝ }
-    ensures { λ _. ⌜ now (dst .exit) ≡ over i (part i 16 (now (src .entry))) (now (dst .entry)) ⌝ }
+// 8 bytes of `src` from `i` and 8 from `j`, to the same places of `dst`; then 16 and 16.
+fn pair8(dst: &mut [u8], src: &[u8], i: usize, j: usize)
+    requires { ⌜ (i + 8 ≤ length (now src)) × (j + 8 ≤ length (now src)) × (length (now src) ≤ length (now dst)) ⌝ }
+    ensures { λ _. ⌜ now (dst .exit) ≡ over j (part j 8 (now (src .entry))) (over i (part i 8 (now (src .entry))) (now (dst .entry))) ⌝ }
 {
     let lo = get8(src, i);
-    let hi = get8(src, i + 8);
+    let hi = get8(src, j);
     put8(dst, i, lo);
-    put8(dst, i + 8, hi);
+    put8(dst, j, hi);
 }
 
-fn move32(dst: &mut [u8], src: &[u8], i: usize)
-    requires { ⌜ (i + 32 ≤ length (now src)) × (length (now src) ≤ length (now dst)) ⌝ }
-    ensures { λ _. ⌜ now (dst .exit) ≡ over i (part i 32 (now (src .entry))) (now (dst .entry)) ⌝ }
+fn pair16(dst: &mut [u8], src: &[u8], i: usize, j: usize)
+    requires { ⌜ (i + 16 ≤ length (now src)) × (j + 16 ≤ length (now src)) × (length (now src) ≤ length (now dst)) ⌝ }
+    ensures { λ _. ⌜ now (dst .exit) ≡ over j (part j 16 (now (src .entry))) (over i (part i 16 (now (src .entry))) (now (dst .entry))) ⌝ }
 {
-    move16(dst, src, i);
-    move16(dst, src, i + 16);
-}
-
-fn move64(dst: &mut [u8], src: &[u8], i: usize)
-    requires { ⌜ (i + 64 ≤ length (now src)) × (length (now src) ≤ length (now dst)) ⌝ }
-    ensures { λ _. ⌜ now (dst .exit) ≡ over i (part i 64 (now (src .entry))) (now (dst .entry)) ⌝ }
-{
-    move32(dst, src, i);
-    move32(dst, src, i + 32);
+    pair8(dst, src, i, i + 8);
+    pair8(dst, src, j, j + 8);
 }
 
 fn short(dst: &mut [u8], src: &[u8])
-    requires { ⌜ (length (now src) ≤ length (now dst)) × (length (now src) < 16) ⌝ }
+    requires { ⌜ (length (now src) ≤ length (now dst)) × (length (now src) < 8) ⌝ }
     ensures { λ _. ⌜ now (dst .exit) ≡ now (src .entry) ++ drop (length (now (src .entry))) (now (dst .entry)) ⌝ }
 {
     let n = src.len();
-    if 8 <= n {
-        move8(dst, src, 0);
-        move8(dst, src, n - 8);
+    if n < 1 {
         return;
     }
     if 4 <= n {
-        move4(dst, src, 0);
-        move4(dst, src, n - 4);
+        let lo = get4(src, 0);
+        let hi = get4(src, n - 4);
+        put4(dst, 0, lo);
+        put4(dst, n - 4, hi);
         return;
     }
-    if 2 <= n {
-        move2(dst, src, 0);
-        move2(dst, src, n - 2);
+    put1(dst, 0, get1(src, 0));
+    if n < 2 {
         return;
     }
-    if 1 <= n {
-        move1(dst, src, 0);
-        return;
-    }
+    put2(dst, n - 2, get2(src, n - 2));
 }
 
 fn long(dst: &mut [u8], src: &[u8])
-    requires { ⌜ (length (now src) ≤ length (now dst)) × (64 ≤ length (now src)) ⌝ }
+    requires { ⌜ (length (now src) ≤ length (now dst)) × (32 ≤ length (now src)) ⌝ }
     ensures { λ _. ⌜ now (dst .exit) ≡ now (src .entry) ++ drop (length (now (src .entry))) (now (dst .entry)) ⌝ }
 {
     let n = src.len();
     let mut i = 0;
-    while 64 < n - i {
-        move64(dst, src, i);
-        i += 64;
+    while 32 < n - i {
+        pair16(dst, src, i, i + 16);
+        i += 32;
     }
-    move64(dst, src, n - 64);
+    pair16(dst, src, n - 32, n - 16);
 }
 
 // `src` over the front of `dst`; what lies past it stays.
@@ -115,19 +75,17 @@ pub fn copy(dst: &mut [u8], src: &[u8])
     ensures { λ _. ⌜ now (dst .exit) ≡ now (src .entry) ++ drop (length (now (src .entry))) (now (dst .entry)) ⌝ }
 {
     let n = src.len();
-    if n < 16 {
+    if n < 8 {
         short(dst, src);
         return;
     }
-    if 64 < n {
-        long(dst, src);
+    if n <= 16 {
+        pair8(dst, src, 0, n - 8);
         return;
     }
-    if 32 < n {
-        move32(dst, src, 0);
-        move32(dst, src, n - 32);
+    if n <= 32 {
+        pair16(dst, src, 0, n - 16);
         return;
     }
-    move16(dst, src, 0);
-    move16(dst, src, n - 16);
+    long(dst, src);
 }

@@ -2,6 +2,7 @@
 -- Leans on `mctp` for the header's bytes. A later step with room 4 emits a header alone: `emitted` says so in one place, by asking nothing of the room.
 use Prim.Native.Nat.{ℕ, _+_, _-_, _*_, _%_, _≤_, _<_, min}
 use mathlib.Core.Bool.{Bool, true, false}
+use mathlib.Core.Path.{_≡_}
 use mathlib.Core.List.{List, [], _∷_, _++_}
 use lib.Dec.{ltb, leb, eqb}
 use lib.ListN.{length}
@@ -21,6 +22,7 @@ use Rattle.fragment.specs.declared.Fragmenter.{Fragmenter}
 use Rattle.fragment.specs.declared.SendOutput.{SendOutput}
 use Rattle.fragment.specs.declared.SendOutput.the-variants.{Packet, Complete, Error as Failed}
 use Rattle.fragment.specs.declared.Fragmented.{Fragmented}
+use Rattle.fragment.specs.declared.Plan.{Plan}
 use Rattle.fragment.specs.declared.Started.{Started}
 use Rattle.fragment.specs.declared.Started.the-variants.{Sends, Refused}
 
@@ -108,6 +110,37 @@ stepOf f payload n =
     pick (f .done) (record { result = record { next = f; output = Complete (f .tag) (f .cookie) }; bytes = [] })
     (pick (ltb n (lead (f .first))) (refused f NoSpace)
     (pick (ltb (length payload) (f .«payload_used»)) (refused f InvalidInput) (emitted f payload n)))
+
+-- The same step in two parts: a plan, from the sizes of payload and buffer alone, and then the bytes that it writes. `stepOf` is the two together
+-- (`step-planned`).
+abbrev pub stillOf : Fragmenter → SendOutput → Plan
+stillOf f output = record { next = f; output = output; writes = false; header = headOf f false; kind = 0; from = 0; len = 0 }
+
+abbrev pub emitOf : Fragmenter → ℕ → ℕ → Plan
+emitOf f size n = record {
+  next = nextOf f size n;
+  output = Packet (lead (f .first) + fitting f size n);
+  writes = true;
+  header = headOf f (ends f size n);
+  kind = typeByte (f .typ) (f .ic);
+  from = f .«payload_used»;
+  len = fitting f size n;
+}
+
+unfoldable pub planOf : Fragmenter → ℕ → ℕ → Plan
+planOf f size n =
+    pick (f .done) (stillOf f (Complete (f .tag) (f .cookie)))
+    (pick (ltb n (lead (f .first))) (stillOf f (Failed NoSpace (f .cookie)))
+    (pick (ltb size (f .«payload_used»)) (stillOf f (Failed InvalidInput (f .cookie))) (emitOf f size n)))
+
+unfoldable pub writtenBy : Plan → List ℕ → List ℕ
+writtenBy p payload =
+    pick (p .writes) (headerBytes (p .header) ++ intro (p .header .som) (p .kind) (part (p .from) (p .len) payload)) []
+
+-- what a plan writes lies in the payload, and has room in the buffer
+pub record Writable (p : Plan) (size n : ℕ) : Type 0 where
+  pub within : p .writes ≡ true → p .from + p .len ≤ size
+  pub room : p .writes ≡ true → lead (p .header .som) + p .len ≤ n
 
 -- what a fragmenter is that `new` gave and steps changed
 pub record Sound (f : Fragmenter) : Type 0 where

@@ -7,7 +7,7 @@ ghost use Prim.Native.Nat.{_+_, _-_, _≤_, _<_, _^_, min};
 ghost use lib.ListN.{length};
 ghost use Rattle.octets.specs.Bytes.{over, part};
 ghost use Rattle.mctp.specs.Header.{headerBytes, lead};
-ghost use Rattle.fragment.specs.Step.{newOf, advancedBy, stepOf, refused, emitted, headOf, ends, fitting, nextOf, packetOf};
+ghost use Rattle.fragment.specs.Step.{newOf, advancedBy, headOf, Writable, stillOf, emitOf, planOf, writtenBy, stepOf};
 use mctp::Cookie;
 use mctp::Eid;
 use mctp::Error;
@@ -44,6 +44,18 @@ pub enum SendOutput {
 pub struct Fragmented {
     pub next: Fragmenter,
     pub output: SendOutput,
+}
+
+// A step before it writes: what it answers, and what goes into the packet buffer, if anything.
+pub struct Plan {
+    pub next: Fragmenter,
+    pub output: SendOutput,
+    pub writes: bool,
+    pub header: Header,
+    pub kind: u8,
+    // where in the payload the body starts, and its length
+    pub from: usize,
+    pub len: usize,
 }
 
 pub enum Started {
@@ -90,6 +102,24 @@ fn write_later(out: &mut [u8], h: Header, payload: &[u8], used: usize, n: usize)
     mctp::write_header(out, h);
     let end = used + n;
     copying::copy(&mut out[4..], &payload[used..end]);
+}
+
+// Writes a plan's packet over the front of the buffer.
+pub fn write(plan: Plan, payload: &[u8], out: &mut [u8])
+    requires { ⌜ Writable plan (length (now payload)) (length (now out)) ⌝ }
+    ensures { λ _. ⌜ now (out .exit) ≡ over 0 (writtenBy plan (now (payload .entry))) (now (out .entry)) ⌝ }
+{
+    if plan.writes {
+        let h = plan.header;
+        let from = plan.from;
+        let n = plan.len;
+        if h.som {
+            write_first(out, h, plan.kind, payload, from, n);
+            return;
+        }
+        write_later(out, h, payload, from, n);
+        return;
+    }
 }
 
 impl Fragmenter {
@@ -177,16 +207,19 @@ impl Fragmenter {
         }
     }
 
-    fn refuse(self, err: Error) -> Fragmented
-        ensures { λ r. ⌜ r ≡ refused self err .result ⌝ }
+    // An answer that writes nothing and moves nothing.
+    fn still(self, output: SendOutput) -> Plan
+        ensures { λ r. ⌜ r ≡ stillOf self output ⌝ }
     {
-        let cookie = self.cookie;
-        Fragmented {
+        let header = self.header(false);
+        Plan {
             next: self,
-            output: SendOutput::Error {
-                err: err,
-                cookie: cookie,
-            },
+            output: output,
+            writes: false,
+            header: header,
+            kind: 0,
+            from: 0,
+            len: 0,
         }
     }
 
@@ -217,56 +250,80 @@ impl Fragmenter {
     }
 
     // One packet: what is left of the payload, as far as it fits.
-    fn emit(self, payload: &[u8], out: &mut [u8]) -> Fragmented
-        requires { ⌜ (lead (self .first) ≤ length (now out)) × (self .«payload_used» ≤ length (now payload)) ⌝ }
-        ensures answer { λ r. ⌜ r ≡ emitted self (now (payload .entry)) (length (now (out .entry))) .result ⌝ }
-        ensures bytes { λ _. ⌜ now (out .exit) ≡ over 0 (emitted self (now (payload .entry)) (length (now (out .entry))) .bytes) (now (out .entry)) ⌝ }
+    fn emit(self, size: usize, room: usize) -> Plan
+        requires { ⌜ (lead (self .first) ≤ room) × (self .«payload_used» ≤ size) ⌝ }
+        ensures { λ r. ⌜ r ≡ emitOf self size room ⌝ }
     {
         let used = self.payload_used;
         let start = mctp::body_start(self.first);
-        let room = smaller(out.len(), self.mtu);
-        let n = smaller(payload.len() - used, beyond(room, start));
-        let eom = used + n == payload.len();
-        let h = self.header(eom);
+        let n = smaller(size - used, beyond(smaller(room, self.mtu), start));
+        let eom = used + n == size;
+        let header = self.header(eom);
         let next = self.advanced(n, eom);
-        let output = SendOutput::Packet(start + n);
-        if self.first {
-            let kind = mctp::encode_type_ic(self.typ, self.ic);
-            write_first(out, h, kind, payload, used, n);
-            return Fragmented {
-                next: next,
-                output: output,
-            };
+        let kind = mctp::encode_type_ic(self.typ, self.ic);
+        Plan {
+            next: next,
+            output: SendOutput::Packet(start + n),
+            writes: true,
+            header: header,
+            kind: kind,
+            from: used,
+            len: n,
         }
-        write_later(out, h, payload, used, n);
+    }
+
+    // What a step does with a payload and a packet buffer of these sizes, in document 01's order.
+    pub fn plan(self, size: usize, room: usize) -> Plan
+        ensures plan { λ r. ⌜ r ≡ planOf self size room ⌝ }
+        ensures fits { λ r. ⌜ Writable r size room ⌝ }
+    {
+        let tag = self.tag;
+        let cookie = self.cookie;
+        if self.done {
+            return self.still(SendOutput::Complete {
+                tag: tag,
+                cookie: cookie,
+            });
+        }
+        if room < mctp::body_start(self.first) {
+            return self.still(SendOutput::Error {
+                err: Error::NoSpace,
+                cookie: cookie,
+            });
+        }
+        if size < self.payload_used {
+            return self.still(SendOutput::Error {
+                err: Error::InvalidInput,
+                cookie: cookie,
+            });
+        }
+        self.emit(size, room)
+    }
+
+    // One step. The same payload is lent at every step.
+    pub fn step(self, payload: &[u8], out: &mut [u8]) -> Fragmented
+        ensures answer { λ r. ⌜ r ≡ stepOf self (now (payload .entry)) (length (now (out .entry))) .result ⌝ }
+        ensures bytes { λ _. ⌜ now (out .exit) ≡ over 0 (stepOf self (now (payload .entry)) (length (now (out .entry))) .bytes) (now (out .entry)) ⌝ }
+    {
+        let plan = self.plan(payload.len(), out.len());
+        let next = plan.next;
+        let output = plan.output;
+        write(plan, payload, out);
         Fragmented {
             next: next,
             output: output,
         }
     }
 
-    // One step, in document 01's order. The same payload is lent at every step.
-    pub fn fragment(self, payload: &[u8], out: &mut [u8]) -> Fragmented
-        ensures answer { λ r. ⌜ r ≡ stepOf self (now (payload .entry)) (length (now (out .entry))) .result ⌝ }
-        ensures bytes { λ _. ⌜ now (out .exit) ≡ over 0 (stepOf self (now (payload .entry)) (length (now (out .entry))) .bytes) (now (out .entry)) ⌝ }
+    // The same step on a fragmenter that is lent and changed in place.
+    pub fn fragment(&mut self, payload: &[u8], out: &mut [u8]) -> SendOutput
+        ensures answer { λ r. ⌜ r ≡ stepOf (now (self .entry)) (now (payload .entry)) (length (now (out .entry))) .result .output ⌝ }
+        ensures next { λ _. ⌜ now (self .exit) ≡ stepOf (now (self .entry)) (now (payload .entry)) (length (now (out .entry))) .result .next ⌝ }
+        ensures bytes { λ _. ⌜ now (out .exit) ≡ over 0 (stepOf (now (self .entry)) (now (payload .entry)) (length (now (out .entry))) .bytes) (now (out .entry)) ⌝ }
     {
-        if self.done {
-            let tag = self.tag;
-            let cookie = self.cookie;
-            return Fragmented {
-                next: self,
-                output: SendOutput::Complete {
-                    tag: tag,
-                    cookie: cookie,
-                },
-            };
-        }
-        if out.len() < mctp::body_start(self.first) {
-            return self.refuse(Error::NoSpace);
-        }
-        if payload.len() < self.payload_used {
-            return self.refuse(Error::InvalidInput);
-        }
-        self.emit(payload, out)
+        let f = *self;
+        let r = f.step(payload, out);
+        *self = r.next;
+        r.output
     }
 }

@@ -2,4 +2,5 @@
 pub mod SizeLaws
 pub mod Entered
 pub mod Receipts
+pub mod Middle
 pub mod Pinned

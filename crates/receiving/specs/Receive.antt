@@ -1,11 +1,11 @@
 -- Document 01, "Reassembler", receive: PoolShort first; then the slot, NoSpace before any look at the header; then steps 2 to 6. B is the most that a
 -- body holds; slot i keeps its body from byte B i of the pool. The answer holds the stack after the call, what is said, and the one write to the pool.
 -- Leans on `reassemble` for one slot's part, on `flows` for the reply's flow.
-use Prim.Native.Nat.{ℕ, _+_, _*_}
+use Prim.Native.Nat.{ℕ, _+_, _-_, _*_}
 use mathlib.Core.Path.{_≡_}
 use mathlib.Core.Bool.{Bool, true, false}
 use mathlib.Core.List.{List, []}
-use lib.Dec.{ltb}
+use lib.Dec.{ltb, leb, eqb}
 use lib.ListN.{length, drop}
 use Rattle.octets.specs.Pick.{pick}
 use Rattle.octets.specs.Bytes.{over}
@@ -27,6 +27,7 @@ use Rattle.reassemble.specs.Slot.{isEmpty}
 use Rattle.reassemble.specs.Search.{slotFor}
 use Rattle.reassemble.specs.Enter.{gate, enter}
 use Rattle.state.specs.Head.{reissued}
+use Rattle.state.specs.declared.Progress.{Progress}
 use Rattle.state.specs.declared.Sizes.{Sizes}
 use Rattle.state.specs.Stack.{Stack, Becomes, slotAt, reslot}
 use Rattle.tables.specs.Walks.{ticked}
@@ -83,6 +84,10 @@ unfoldable pub land : ℕ → ℕ → Stack → Header → List ℕ → Gate →
 land B i st h p (Shut err) = refuse err st
 land B i st h p (Pass s) =
     settled B i (ticked st) (h .key) p (enter B (ticked st .head .now) (nextIssue (st .head .issue)) s h p)
+
+-- a middle packet of n bytes: neither first nor last, in turn, with room
+unfoldable pub goesOn : Header → Progress → ℕ → ℕ → Bool
+goesOn h p n B = pick (h .som) false (pick (h .eom) false (pick (eqb (h .seq) (p .seq)) (leb n (B - p .len)) false))
 
 -- step 2: for an empty slot one event is counted
 abbrev pub opening : Bool → Stack → Stack

@@ -1,6 +1,7 @@
 // Receive: find the slot, gate, enter, settle: one store of one slot, one write to the pool, then the flow.
+// A middle packet goes a short way: of its slot the sequence and the length alone are read and stored.
 ghost use mathlib.Core.Path.{_≡_};
-ghost use Prim.Native.Nat.{_+_, _*_, _≤_, _<_};
+ghost use Prim.Native.Nat.{_+_, _-_, _*_, _≤_, _<_};
 ghost use lib.ListN.{length};
 ghost use mathlib.Core.Bool.{true};
 ghost use Rattle.mctp.specs.declared.HeaderRead.the-variants.{Good, Bad};
@@ -9,10 +10,10 @@ ghost use Rattle.reassemble.specs.declared.Outcome.the-variants.{Whole};
 ghost use Rattle.reassemble.specs.Slot.{isEmpty};
 ghost use Rattle.reassemble.specs.Enter.{gateEmpty, gateReply, Planned};
 ghost use Rattle.flows.specs.Table.{standing, flowCookie};
-ghost use Rattle.state.specs.Slot.{SlotOk};
+ghost use Rattle.state.specs.Slot.{SlotOk, progressOf};
 ghost use Rattle.state.specs.Stack.{Kept, Becomes, stackOf, slotAt};
 ghost use Rattle.tables.specs.Walks.{reflows};
-ghost use Rattle.receiving.specs.Receive.{receiveOf, receiveBy, receiveAt, land, settled, concluded, saidOf, flowsAfter, nextIssue, Makes};
+ghost use Rattle.receiving.specs.Receive.{receiveOf, receiveBy, receiveAt, goesOn, land, settled, concluded, saidOf, flowsAfter, nextIssue, Makes};
 use crate::ReceiveHandle;
 use crate::Received;
 use crate::issue::next_issue;
@@ -25,6 +26,7 @@ use reassemble::Entry;
 use reassemble::Gate;
 use reassemble::Outcome;
 use reassemble::Reassembler;
+use state::Progress;
 use state::Sizes;
 
 // Receives a packet.
@@ -66,14 +68,73 @@ fn receive_good(
 {
     let i = tables::find_collecting(state, sizes, h.key);
     if i < sizes.slots {
-        let s = state::slot_at(state, sizes, i);
-        return enter(state, sizes, pool, packet, h, i, s);
+        return go_on(state, sizes, pool, packet, h, i);
     }
     let j = tables::find_empty(state, sizes);
     if j < sizes.slots {
         return open(state, sizes, pool, packet, h, j);
     }
     Received::Refused(Error::NoSpace)
+}
+
+// A slot that collects the key: a middle packet goes the short way.
+fn go_on(
+    state: &mut [u8],
+    sizes: Sizes,
+    pool: &mut [u8],
+    packet: &[u8],
+    h: Header,
+    i: usize,
+) -> Received
+    requires { ⌜ Kept sizes (now state) × (h .key .tag .0 < 8) × (h .seq < 4) × (4 ≤ length (now packet)) × (sizes .body * sizes .slots ≤ length (now pool)) × (i < sizes .slots) ⌝ }
+    ensures { λ r. ⌜ Makes sizes (land (sizes .body) i (stackOf sizes (now (state .entry))) h (now (packet .entry)) (Pass (slotAt i (stackOf sizes (now (state .entry)))))) r (now (state .entry)) (now (state .exit)) (now (pool .entry)) (now (pool .exit)) ⌝ }
+{
+    let p = state::progress_at(state, sizes, i);
+    let n = packet.len() - 4;
+    let short = goes_on(h, p, n, sizes.body);
+    if short {
+        return carry(state, sizes, pool, packet, h, i, p);
+    }
+    let s = state::slot_at(state, sizes, i);
+    enter(state, sizes, pool, packet, h, i, s)
+}
+
+// A middle packet of n bytes: neither first nor last, in turn, with room.
+fn goes_on(h: Header, p: Progress, n: usize, body: usize) -> bool
+    requires { ⌜ p .len ≤ body ⌝ }
+    ensures { λ r. ⌜ r ≡ goesOn h p n body ⌝ }
+{
+    if h.som {
+        return false;
+    }
+    if h.eom {
+        return false;
+    }
+    if h.seq == p.seq {
+        return n <= body - p.len;
+    }
+    false
+}
+
+// A middle packet: of its slot the sequence and the length alone change.
+fn carry(
+    state: &mut [u8],
+    sizes: Sizes,
+    pool: &mut [u8],
+    packet: &[u8],
+    h: Header,
+    i: usize,
+    p: Progress,
+) -> Received
+    requires { ⌜ Kept sizes (now state) × (4 ≤ length (now packet)) × (sizes .body * sizes .slots ≤ length (now pool)) × (i < sizes .slots) × (p ≡ progressOf (slotAt i (stackOf sizes (now state)))) × (p .len ≤ sizes .body) × (goesOn h p (length (now packet) - 4) (sizes .body) ≡ true) ⌝ }
+    ensures { λ r. ⌜ Makes sizes (land (sizes .body) i (stackOf sizes (now (state .entry))) h (now (packet .entry)) (Pass (slotAt i (stackOf sizes (now (state .entry)))))) r (now (state .entry)) (now (state .exit)) (now (pool .entry)) (now (pool .exit)) ⌝ }
+{
+    let n = packet.len() - 4;
+    tables::tick(state, sizes);
+    state::put_progress(state, sizes, i, (h.seq % 4 + 1) % 4, p.len + n);
+    let at = sizes.body * i + p.len;
+    copying::copy(&mut pool[at..], &packet[4..]);
+    Received::More
 }
 
 // Step 2: an empty slot counts one event, and asks what it asks.

@@ -21,7 +21,7 @@ use Rattle.reassemble.specs.declared.State.{State}
 use Rattle.reassemble.specs.declared.State.the-variants.{Empty, Collecting, Done, HandleOut}
 use Rattle.reassemble.specs.declared.Reassembler.{Reassembler}
 use Rattle.state.specs.Layout.{slotWidth}
-use Rattle.state.specs.Slot.{stateNo, issueNo, stateFrom, ownerTag, leadRow, restRow, slotRow, slotBytes, slotOf, SlotOk, slotCodec, progress, progressRow, keyWord}
+use Rattle.state.specs.Slot.{stateNo, issueNo, stateFrom, ownerTag, leadRow, restRow, slotRow, slotBytes, slotOf, SlotOk, slotCodec, progress, progressRow, progressOf, keyWord}
 
 state-back : (s : State) → stateFrom (stateNo s) (issueNo s) ≡ s
 unfolding stateFrom pick
@@ -130,6 +130,10 @@ module _ (B : ℕ) (s : Reassembler) (ok : SlotOk B s) where
   -- its first byte
   pub slot-state : field 0 1 (slotBytes s) ≡ stateNo (s .state)
   slot-state = read .state
+
+  -- its sequence and its length
+  pub slot-progress : (seq len : ℕ) → seq ≡ field 5 1 (slotBytes s) → len ≡ field 6 2 (slotBytes s) → record { seq = seq; len = len } ≡ progressOf s
+  slot-progress seq len p q = let r = read in let u = p ∙ r .seq in let v = q ∙ r .len in λ i. record { seq = u i; len = v i }
 
 pub slot-lawful : (B : ℕ) → Lawful (slotCodec B)
 slot-lawful B = record { long = slot-long; back = slot-back B }

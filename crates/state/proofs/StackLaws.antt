@@ -69,7 +69,7 @@ unfolding bytes
 bytes-any B [] = refl
 bytes-any B (s ∷ l) = ap (λ (t : List ℕ). slotBytes s ++ t) (bytes-any B l)
 
--- block i of a region that is regular: what it says, that it is that element's bytes, its ranges, and its first w bytes as a number
+-- block i of a region that is regular: what it says, that it is that element's bytes, its ranges, and w of its bytes as a number
 module _ {A : Type 0} (C : Codec A) (n at : ℕ) (b : List ℕ) (d : A) (i : ℕ) (h : i < n) where
   block-get : getD (region C n at b) i d ≡ C .dec (part (at + C .width * i) (C .width) b)
   block-get = rw (← place-is (C .width) at i) (region-get C n at i b d h)
@@ -81,8 +81,11 @@ module _ {A : Type 0} (C : Codec A) (n at : ℕ) (b : List ℕ) (d : A) (i : ℕ
     block-ok : C .Ok (getD (region C n at b) i d)
     block-ok = rw (block-get, ← place-is (C .width) at i) (regular-get C n at i b h r .ok)
 
+    block-field : (j w : ℕ) → j + w ≤ C .width → field (at + C .width * i + j) w b ≡ field j w (C .enc (getD (region C n at b) i d))
+    block-field j w l = sym (rw block-same at (ap num (part-part (at + C .width * i) j w (C .width) b l)))
+
     block-first : (w : ℕ) → w ≤ C .width → field (at + C .width * i) w b ≡ field 0 w (C .enc (getD (region C n at b) i d))
-    block-first w l = sym (rw (block-same, add-zero) at (ap num (part-part (at + C .width * i) 0 w (C .width) b (omega arith))))
+    block-first w l = rw add-zero at (block-field 0 w (omega arith))
 
 module _ (z : Sizes) (b : List ℕ) (k : Kept z b) where
   pub head-put : (h : Head) → HeadOk h → Becomes z b (over 0 (headBytes h) b) (rehead h (stackOf z b))
@@ -176,6 +179,10 @@ module _ (z : Sizes) (b : List ℕ) (k : Kept z b) where
     pub slot-first : (w : ℕ) → w ≤ slotWidth → field (slotPlace i) w b ≡ field 0 w (slotBytes (slotAt i (stackOf z b)))
     unfolding stackOf
     slot-first = block-first (slotCodec (z .body)) (z .slots) slotsAt b blankSlot i h (k .slots)
+
+    pub slot-field : (j w : ℕ) → j + w ≤ slotWidth → field (slotPlace i + j) w b ≡ field j w (slotBytes (slotAt i (stackOf z b)))
+    unfolding stackOf
+    slot-field = block-field (slotCodec (z .body)) (z .slots) slotsAt b blankSlot i h (k .slots)
 
   module _ (i : ℕ) (h : i < flowCount) where
     pub flow-get : flowAt i (stackOf z b) ≡ flowOf (part (flowPlace i) flowWidth b)

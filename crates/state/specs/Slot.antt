@@ -11,6 +11,7 @@ use Rattle.mctp.specs.Header.{bit, typeByte, typeOf}
 use Rattle.reassemble.specs.declared.State.{State}
 use Rattle.reassemble.specs.declared.State.the-variants.{Empty, Collecting, Done, HandleOut}
 use Rattle.reassemble.specs.declared.Reassembler.{Reassembler}
+use Rattle.state.specs.declared.Progress.{Progress}
 use Rattle.state.specs.Layout.{slotWidth}
 
 abbrev pub stateNo : State → ℕ
@@ -87,6 +88,10 @@ progressRow seq len = (1, seq) ∷ (2, len) ∷ []
 -- the slot with another sequence to expect and another length
 abbrev pub progress : ℕ → ℕ → Reassembler → Reassembler
 progress seq len s = record { state = s .state; key = s .key; typ = s .typ; ic = s .ic; «next_seq» = seq; len = len; cookie = s .cookie; stamp = s .stamp }
+
+-- the sequence that a slot expects, and how much it holds
+abbrev pub progressOf : Reassembler → Progress
+progressOf s = record { seq = s .«next_seq»; len = s .len }
 
 -- a state's number and a key as one number
 abbrev pub wordOf : ℕ → Key → ℕ

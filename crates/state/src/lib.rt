@@ -9,7 +9,7 @@ ghost use Rattle.octets.specs.Bytes.{puts};
 ghost use Rattle.flows.specs.Codec.{FlowOk, flowWord};
 ghost use Rattle.state.specs.Layout.{headWidth, slotWidth, flowCount};
 ghost use Rattle.state.specs.Head.{headOf, headBytes, HeadOk, recounted, reissued};
-ghost use Rattle.state.specs.Slot.{stateNo, issueNo, stateFrom, ownerTag, slotOf, slotBytes, leadRow, restRow, progressRow, SlotOk, progress, keyWord};
+ghost use Rattle.state.specs.Slot.{stateNo, issueNo, stateFrom, ownerTag, slotOf, slotBytes, leadRow, restRow, progressRow, SlotOk, progress, progressOf, keyWord};
 ghost use Rattle.state.specs.Stack.{Kept, Becomes, stackOf, slotAt, flowAt, reslot, reflow, rehead};
 use flows::Flow;
 use mctp::Cookie;
@@ -362,6 +362,26 @@ pub fn put_progress(state: &mut [u8], sizes: Sizes, i: usize, seq: u8, len: usiz
     let at = SLOTS_AT + SLOT_WIDTH * i;
     let end = at + SLOT_WIDTH;
     write_progress(&mut state[at..end], seq, len as u16);
+}
+
+// What a middle packet of a message looks at.
+pub struct Progress {
+    pub seq: u8,
+    pub len: usize,
+}
+
+// The sequence that a slot expects, and how much it holds.
+pub fn progress_at(state: &[u8], sizes: Sizes, i: usize) -> Progress
+    requires { ⌜ Kept sizes (now state) × (i < sizes .slots) ⌝ }
+    ensures { λ r. ⌜ (r ≡ progressOf (slotAt i (stackOf sizes (now (state .entry))))) × (r .len ≤ sizes .body) ⌝ }
+{
+    let at = SLOTS_AT + SLOT_WIDTH * i;
+    let seq = get1(state, at + 5);
+    let len = get2(state, at + 6);
+    Progress {
+        seq: seq,
+        len: len as usize,
+    }
 }
 
 // A slot's state and key as one number, in wire order.

@@ -3,6 +3,12 @@
 use mctp::{Eid, MsgIC, MsgType, Tag, TagValue};
 use mctp_estack::fragment::{Fragmenter, SendOutput};
 use mctp_estack::Stack;
+#[cfg(board)]
+use oracle::board::raw;
+#[cfg(board)]
+use oracle::port::{Send, TagWish, POOL};
+#[cfg(board)]
+use oracle::rows::send_row;
 use std::hint::black_box;
 use std::time::Instant;
 
@@ -72,6 +78,55 @@ impl Subject for Original {
     }
 }
 
+/// The proved port: its state and the pool are bytes, kept here.
+#[cfg(board)]
+struct Board {
+    state: Box<[u8; raw::STATE]>,
+    pool: Box<[u8; POOL]>,
+}
+
+#[cfg(board)]
+impl Subject for Board {
+    type Fragmenter = [u64; 13];
+
+    fn new(own: u8) -> Self {
+        let mut board = Board { state: Box::new([0; raw::STATE]), pool: Box::new([0; POOL]) };
+        assert_eq!(raw::new(&mut board.state[..], own, MTU, 0), 0);
+        board
+    }
+
+    fn start_send(&mut self, dest: u8, kind: Kind) -> [u64; 13] {
+        let tag = match kind {
+            Kind::Request => TagWish::Owned(TAG.0),
+            Kind::Reply => TagWish::Unowned(TAG.0),
+        };
+        let send = Send { dest, typ: 1, tag, expires: false, ic: false, mtu: None, cookie: None };
+        let mut fragmenter = [0; 13];
+        assert_eq!(raw::start_send(&mut self.state[..], &send_row(&send), &mut fragmenter), 0);
+        fragmenter
+    }
+
+    fn fragment(fragmenter: &mut [u64; 13], payload: &[u8], out: &mut [u8]) -> Option<usize> {
+        let mut len = 0;
+        assert_eq!(raw::fragment(fragmenter, payload, out, &mut len), 0);
+        (len > 0).then_some(len as usize)
+    }
+
+    fn receive(&mut self, packet: &[u8]) -> Option<usize> {
+        let mut handle = [0; 2];
+        assert_eq!(raw::receive(&mut self.state[..], &mut self.pool[..], packet, &mut handle), 0);
+        let [index, issue] = handle;
+        if issue == 0 {
+            return None;
+        }
+        let mut message = [0; 10];
+        assert_eq!(raw::fetch_message(&self.state[..], &self.pool[..], index as usize, issue, &mut message), 0);
+        let len = black_box(&self.pool[message[8] as usize..][..message[9] as usize]).len();
+        assert_eq!(raw::finished_receive(&mut self.state[..], index as usize, issue), 0);
+        Some(len)
+    }
+}
+
 /// What every cut is lent; made once, never cleared.
 struct Lent {
     payload: Vec<u8>,
@@ -127,7 +182,12 @@ fn time<S: Subject>(work: Work, kind: Kind, count: usize) -> f64 {
 
 type Timer = fn(Work, Kind, usize) -> f64;
 
-const SUBJECTS: [(&str, Timer); 1] = [("original", time::<Original>)];
+/// The original first: the others are held against it.
+const SUBJECTS: &[(&str, Timer)] = &[
+    ("original", time::<Original>),
+    #[cfg(board)]
+    ("board", time::<Board>),
+];
 
 fn median(times: &mut [f64]) -> f64 {
     times.sort_by(f64::total_cmp);
@@ -142,12 +202,12 @@ fn measure(work: Work, kind: Kind, count: usize, rounds: usize) {
             times[subject].push(timer(work, kind, count));
         }
     }
-    for ((name, _), times) in SUBJECTS.iter().zip(&mut times) {
-        let median = median(times);
-        let least = times[0];
+    let figures: Vec<_> = times.iter_mut().map(|times| (median(times), times[0])).collect();
+    for ((name, _), (median, least)) in SUBJECTS.iter().zip(&figures) {
         let packet = median / PACKETS as f64;
         let label = format!("{work:?} {kind:?}").to_lowercase();
-        println!("{label:<14} {name:<10} {median:>9.1} {least:>9.1} {packet:>9.2}");
+        let (ratio, of_least) = (median / figures[0].0, least / figures[0].1);
+        println!("{label:<14} {name:<10} {median:>9.1} {least:>9.1} {packet:>9.2} {ratio:>7.2} {of_least:>7.2}");
     }
 }
 
@@ -160,7 +220,13 @@ fn main() {
     println!(
         "{count} messages of {MESSAGE} bytes, MTU {MTU}, {PACKETS} packets, {rounds} rounds; no buffer is cleared"
     );
-    println!("{:<14} {:<10} {:>9} {:>9} {:>9}", "ns a message", "", "median", "least", "a packet");
+    println!(
+        "{:<14} {:<10} {:>9} {:>9} {:>9} {:>7} {:>7}",
+        "ns a message", "", "median", "least", "a packet", "ratio", "least's"
+    );
+    if SUBJECTS.len() == 1 {
+        println!("{}", oracle::NO_BOARD);
+    }
     for work in [Work::Cut, Work::Join, Work::Both] {
         for kind in [Kind::Request, Kind::Reply] {
             measure(work, kind, count, rounds);

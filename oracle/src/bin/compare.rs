@@ -1,5 +1,7 @@
 //! Compares two ports; README.md says how.
 
+#[cfg(board)]
+use oracle::board::Board;
 use oracle::compare::{random, words, Difference, Limits};
 use oracle::model::Model;
 use oracle::original::Original;
@@ -11,6 +13,8 @@ use std::time::Duration;
 const USAGE: &str = "\
 usage: compare REFERENCE SUBJECT [--seed N] [--calls N] [--seconds N] [--words DEPTH]
   original model   the original against the model, within the domain of equality
+  original board   the original against the proved port, within the domain of equality
+  model board      the model against the proved port, all calls
   model model      the model against itself, all calls: shows what the calls cover
   --seed N         the first episode's seed (1)
   --calls N        stop after so many random calls (1000000, or no limit with --seconds)
@@ -62,11 +66,24 @@ impl Options {
         Ok(format!("{episodes} episodes from seed {seed}"))
     }
 
+    #[cfg(board)]
+    fn run_board<A: Port>(&self, in_domain: bool, tally: &mut Tally) -> Result<String, Difference> {
+        self.run::<A, Board>(in_domain, tally)
+    }
+
+    #[cfg(not(board))]
+    fn run_board<A: Port>(&self, _: bool, _: &mut Tally) -> Result<String, Difference> {
+        eprintln!("compare: {}", oracle::NO_BOARD);
+        std::process::exit(2)
+    }
+
     fn run_ports(&self, tally: &mut Tally) -> Option<Result<String, Difference>> {
         let ports: Vec<&str> = self.ports.iter().map(String::as_str).collect();
         match ports[..] {
             ["original", "model"] => Some(self.run::<Original, Model>(true, tally)),
             ["model", "model"] => Some(self.run::<Model, Model>(false, tally)),
+            ["original", "board"] => Some(self.run_board::<Original>(true, tally)),
+            ["model", "board"] => Some(self.run_board::<Model>(false, tally)),
             _ => None,
         }
     }
@@ -81,6 +98,10 @@ fn main() -> ExitCode {
         return ExitCode::from(2);
     };
     print!("{tally}");
+    let missing = tally.missing();
+    if !missing.is_empty() {
+        println!("\nnever: {}", missing.join("; "));
+    }
     match result {
         Ok(ran) => {
             println!("\n{ran}: {} calls compared, {} passed over, no difference", tally.calls, tally.passed);

@@ -1,53 +1,49 @@
 -- `copy` goes by the length; the moves of both ends overlap or meet.
+use native.Mathlib.Omega.{arith}
+use denote.Ref.{now}
 use borrow.Author.Needs.{needs}
-use Rattle.copying.proofs.Front.{both-ends}
+use Rattle.copying.proofs.Front.{ends-at-once}
 use Rattle.copying.proofs.copy.Statement.{statement}
 use Rattle.copying.proofs.copy.Tie as tie
 
 short-requires : tie.Need-short-requires
-short-requires c κs = search needs
+short-requires c κs = (omega arith, omega arith)
 
 same-length : tie.Need-same-length
-same-length c = search needs
+same-length c = omega arith
 
 returns : tie.Need-returns
 returns c = search needs
 
-long-requires : tie.Need-long-requires
-long-requires c κs = search needs
+pair8-requires : tie.Need-pair8-requires
+pair8-requires c κs = (omega arith, omega arith, omega arith)
 
 same-length-2 : tie.Need-same-length-2
-same-length-2 c = search needs
+same-length-2 c = omega arith
 
 returns-2 : tie.Need-returns-2
-returns-2 c = search needs
+returns-2 c = let z = c .before .before .before .before .before .before .before .before .args in ends-at-once (now (z .src)) (now (z .dst)) 8 (c .before .before .pair8 .ensures) (omega arith) (omega arith)
 
-move32-requires : tie.Need-move32-requires
-move32-requires c κs = search needs
+sub-pair16 : tie.Need-sub-pair16
+sub-pair16 c = omega arith
 
-sub-move32 : tie.Need-sub-move32
-sub-move32 c = search needs
-
-move32-requires-2 : tie.Need-move32-requires-2
-move32-requires-2 c κs = search needs
+pair16-requires : tie.Need-pair16-requires
+pair16-requires c κs = (omega arith, omega arith, omega arith)
 
 same-length-3 : tie.Need-same-length-3
-same-length-3 c = search needs
+same-length-3 c = omega arith
 
 returns-3 : tie.Need-returns-3
-returns-3 c = let p = c .before .before in both-ends _ _ 32 (p .before .before .before .before .move32 .ensures) (p .move322 .ensures) (search needs) (search needs)
+returns-3 c = let z = c .before .before .before .before .before .before .before .before .before .args in ends-at-once (now (z .src)) (now (z .dst)) 16 (c .before .before .pair16 .ensures) (omega arith) (omega arith)
 
-move16-requires : tie.Need-move16-requires
-move16-requires c κs = search needs
-
-move16-requires-2 : tie.Need-move16-requires-2
-move16-requires-2 c κs = search needs
+long-requires : tie.Need-long-requires
+long-requires c κs = (omega arith, omega arith)
 
 same-length-4 : tie.Need-same-length-4
-same-length-4 c = search needs
+same-length-4 c = omega arith
 
 returns-4 : tie.Need-returns-4
-returns-4 c = let p = c .before .before in both-ends _ _ 16 (p .before .before .before .before .move16 .ensures) (p .move162 .ensures) (search needs) (search needs)
+returns-4 c = search needs
 
 pub copy-spec : {M : Type 1} → statement M
 copy-spec =
@@ -56,15 +52,13 @@ copy-spec =
     short-requires
     same-length
     returns
-    long-requires
+    pair8-requires
     same-length-2
     returns-2
-    move32-requires
-    sub-move32
-    move32-requires-2
+    sub-pair16
+    pair16-requires
     same-length-3
     returns-3
-    move16-requires
-    move16-requires-2
+    long-requires
     same-length-4
     returns-4)

@@ -1,4 +1,4 @@
--- `run`: a stack that `begin` says is there is kept, and the figure asks no more.
+-- `run`: a stack that `begin` says is there is kept, and the row asks no more.
 use borrow.Author.Needs.{needs}
 use Rattle.figures.proofs.run.Statement.{statement}
 use Rattle.figures.proofs.run.Tie as tie
@@ -6,11 +6,8 @@ use Rattle.figures.proofs.run.Tie as tie
 begin-requires : tie.Need-begin-requires
 begin-requires c κs = search needs
 
-receiving-requires : tie.Need-receiving-requires
-receiving-requires c κs = c .before .before .before .before .before .begin .ensures (c .before .before .if1 .taken)
-
-text-requires : tie.Need-text-requires
-text-requires c κs = search needs
+play-requires : tie.Need-play-requires
+play-requires c κs = c .before .before .before .before .before .begin .ensures (c .before .before .if1 .taken)
 
 same-length : tie.Need-same-length
 same-length c = search needs
@@ -32,8 +29,7 @@ run-spec =
     tie.close
     (tie.spec
     begin-requires
-    receiving-requires
-    text-requires
+    play-requires
     same-length
     same-length-2
     returns

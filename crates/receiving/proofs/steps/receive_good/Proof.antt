@@ -9,7 +9,6 @@ use Rattle.octets.specs.Find.{find}
 use Rattle.octets.proofs.Finds.{find-hit}
 use Rattle.mctp.specs.declared.HeaderRead.the-variants.{Good}
 use Rattle.mctp.specs.declared.Error.the-variants.{NoSpace}
-use Rattle.reassemble.specs.declared.Reassembler.{Reassembler}
 use Rattle.reassemble.specs.declared.Gate.the-variants.{Pass}
 use Rattle.reassemble.specs.Slot.{blankSlot, isEmpty, collects}
 use Rattle.state.specs.Stack.{stackOf, slotAt}
@@ -22,11 +21,8 @@ use Rattle.receiving.proofs.steps.receive_good.Tie as tie
 find-collecting-requires : tie.Need-find-collecting-requires
 find-collecting-requires c κs = (c .before .before .before .before .pre .0, c .before .before .before .before .pre .1)
 
-slot-at-requires : tie.Need-slot-at-requires
-slot-at-requires c κs = (c .before .before .before .before .before .before .before .before .pre .0, c .before .if1 .taken)
-
-enter-requires : tie.Need-enter-requires
-enter-requires c κs = let p = c .before .before .before .before .before .before .before .before .before .before .before .pre in (p .0, p .1, p .2, p .3, p .4, c .before .before .before .before .if1 .taken, c .before .before .slot-at .ensures .1)
+go-on-requires : tie.Need-go-on-requires
+go-on-requires c κs = let p = c .before .before .before .before .before .before .before .before .before .pre in (p .0, p .1, p .2, p .3, p .4, c .before .before .if1 .taken)
 
 same-length : tie.Need-same-length
 same-length c = search needs
@@ -36,7 +32,7 @@ same-length-2 c = search needs
 
 returns : tie.Need-returns
 returns c =
-    let s = c .before .before .before .before .before .before .before .before .before .before .before .before .before .before .before .before in
+    let s = c .before .before .before .before .before .before .before .before .before .before .before .before .before .before in
     let a = s .args in
     let z = a .sizes in
     let b = now (a .state) in
@@ -44,11 +40,10 @@ returns c =
     let h = a .h in
     let p = now (a .packet) in
     let B = z .body in
-    let m = c .before .before .before .before .enter in
-    let f = c .before .before .before .before .before .before .before .before .before .before .before .find-collecting in
-    let l : find (collects (h .key)) (st .slots) < length (st .slots) = omega (arith, slots-length z b, f .ensures .0, c .before .before .before .before .before .before .before .before .before .if1 .taken) in
-    let q = ap (λ (x : Reassembler). land B (f .result) st h p (Pass x)) (c .before .before .before .before .before .before .before .slot-at .ensures .0) ∙ ap (λ (j : ℕ). land B j st h p (Pass (slotAt j st))) (f .ensures .0) in
-    makes-as z (m .result) (q ∙ sym (good-collecting B st p h l)) (m .ensures)
+    let m = c .before .before .before .before .go-on in
+    let f = c .before .before .before .before .before .before .before .before .before .find-collecting in
+    let l : find (collects (h .key)) (st .slots) < length (st .slots) = omega (arith, slots-length z b, f .ensures .0, c .before .before .before .before .before .before .before .if1 .taken) in
+    makes-as z (m .result) (ap (λ (j : ℕ). land B j st h p (Pass (slotAt j st))) (f .ensures .0) ∙ sym (good-collecting B st p h l)) (m .ensures)
 
 find-empty-requires : tie.Need-find-empty-requires
 find-empty-requires c κs = c .before .before .before .before .before .before .before .before .pre .0
@@ -108,8 +103,7 @@ receive-good-spec =
     tie.close
     (tie.spec
     find-collecting-requires
-    slot-at-requires
-    enter-requires
+    go-on-requires
     same-length
     same-length-2
     returns

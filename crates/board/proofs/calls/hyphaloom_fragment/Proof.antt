@@ -1,0 +1,60 @@
+-- The row and the length first, then the packet: the plan carried out is the step.
+use borrow.Author.Needs.{needs}
+use mathlib.Core.Path.{ap, _∙_}
+use lib.ListN.{length}
+use denote.Ref.{now}
+use Rattle.octets.specs.Bytes.{over}
+use Rattle.fragment.specs.Step.{Step}
+use Rattle.fragment.proofs.Plans.{carried, step-planned}
+use Rattle.words.specs.Words.{fragmenterOf}
+use Rattle.board.specs.Answers.{stepNo, lengthAfter, steppedAfter}
+use Rattle.board.proofs.calls.hyphaloom_fragment.Statement.{statement}
+use Rattle.board.proofs.calls.hyphaloom_fragment.Tie as tie
+
+fragmenter-of-requires : tie.Need-fragmenter-of-requires
+fragmenter-of-requires c κs = search needs
+
+plan-requires : tie.Need-plan-requires
+plan-requires c κs = search needs
+
+put-step-requires : tie.Need-put-step-requires
+put-step-requires c κs = search needs
+
+write-requires : tie.Need-write-requires
+write-requires c κs = c .before .before .before .before .before .plan .ensures .1
+
+same-length : tie.Need-same-length
+same-length c = search needs
+
+returns : tie.Need-returns
+returns c =
+    let w = c .before .before in
+    let p = w .before .before in
+    let l = p .before .before .before .before in
+    let s = l .before .before .before .before .before .args in
+    let row = now (s .fragmenter) in
+    let payload = now (s .payload) in
+    let out = now (s .out) in
+    let e =
+    ap (carried payload) (rw (l .before .fragmenter-of .ensures) at (l .plan .ensures .0)) ∙ step-planned (fragmenterOf row) payload (length out)
+    in (
+      p .put-step .ensures .0 ∙ ap (λ (x : Step). stepNo (x .result .output)) e,
+      (
+        p .put-step .ensures .1 .0 ∙ ap (λ (x : Step). lengthAfter (x .result .output) (now (s .len))) e,
+        (
+          p .put-step .ensures .1 .1 ∙ ap (λ (x : Step). steppedAfter (x .result .next) (x .result .output) row) e,
+          w .write .ensures ∙ ap (λ (x : Step). over 0 (x .bytes) out) e,
+        ),
+      ),
+    )
+
+pub hyphaloom-fragment-spec : {M : Type 1} → statement M
+hyphaloom-fragment-spec =
+    tie.close
+    (tie.spec
+    fragmenter-of-requires
+    plan-requires
+    put-step-requires
+    write-requires
+    same-length
+    returns)

@@ -1,0 +1,52 @@
+use borrow.Author.Needs.{needs}
+use mathlib.Core.Path.{refl, sym, ap, _∙_}
+use denote.Ref.{now}
+use Rattle.octets.specs.Pick.{pick}
+use Rattle.fragment.specs.declared.Started.{Started}
+use Rattle.state.proofs.StackLaws.{stays}
+use Rattle.board.specs.Answers.{board, startOf, startedNo, fragmenterAfter}
+use Rattle.board.proofs.calls.hyphaloom_start_send.Statement.{statement}
+use Rattle.board.proofs.calls.hyphaloom_start_send.Tie as tie
+
+is-lawful-requires : tie.Need-is-lawful-requires
+is-lawful-requires c κs = search needs
+
+send-of-requires : tie.Need-send-of-requires
+send-of-requires c κs = search needs
+
+start-send-requires : tie.Need-start-send-requires
+start-send-requires c κs = search needs
+
+put-started-requires : tie.Need-put-started-requires
+put-started-requires c κs = search needs
+
+same-length : tie.Need-same-length
+same-length c = search needs
+
+returns : tie.Need-returns
+unfolding startOf pick
+returns c =
+    let s = c .before .before .before .before .before .before .before .before .before .before in
+    let l = sym (c .before .before .before .before .before .before .before .before .is-lawful .ensures) ∙ c .before .before .before .before .before .before .before .if1 .taken in
+    let u = rw (c .before .before .before .before .before .send-of .ensures) at (c .before .before .before .before .start-send .ensures) in
+    let p = c .put-started .ensures in
+    rw l (p .0 ∙ ap startedNo (u .0), (u .1, p .1 ∙ ap (λ (x : Started). fragmenterAfter x (now (s .args .fragmenter))) (u .0)))
+
+returns-2 : tie.Need-returns-2
+unfolding startOf pick
+returns-2 c =
+    let s = c .before .before .before in
+    let l = sym (c .before .is-lawful .ensures) ∙ c .if1 .left in
+    rw l (refl, (stays board (now (s .args .state)) (s .pre), refl))
+
+pub hyphaloom-start-send-spec : {M : Type 1} → statement M
+hyphaloom-start-send-spec =
+    tie.close
+    (tie.spec
+    is-lawful-requires
+    send-of-requires
+    start-send-requires
+    put-started-requires
+    same-length
+    returns
+    returns-2)

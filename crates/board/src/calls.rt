@@ -1,0 +1,335 @@
+// The calls. The one premise is the state's: it is one that `hyphaloom_new` made and the other calls kept.
+ghost use mathlib.Core.Path.{_≡_};
+ghost use lib.ListN.{length};
+ghost use Rattle.octets.specs.Bytes.{over};
+ghost use Rattle.fragment.specs.Step.{stepOf};
+ghost use Rattle.state.specs.Stack.{Kept, Becomes, stackOf};
+ghost use Rattle.receiving.specs.Receive.{receiveOf};
+ghost use Rattle.estack.specs.Basics.{newSays, NewMakes, setEidOf, localOf, cancelOf, freeTagsOf};
+ghost use Rattle.estack.specs.Handles.{finishOf, returnOf, cookieOf, fetchOf, bySourceOf, byCookieOf};
+ghost use Rattle.estack.specs.Update.{updateOf};
+ghost use Rattle.words.specs.Words.{isYes, tagFrom, cookieFrom, fragmenterOf};
+ghost use Rattle.board.specs.Answers.{board, doneNo, updatedNo, nextAfter, receivedNo, handleAfter, deferredWords, fetchedNo, messageAfter, startedNo, fragmenterAfter, stepNo, lengthAfter, steppedAfter, startOf};
+use estack::Deferred;
+use estack::Done;
+use estack::Fetched;
+use estack::ReceiveHandle;
+use estack::Received;
+use estack::Updated;
+use fragment::Fragmenter;
+use fragment::SendOutput;
+use fragment::Started;
+use mctp::Eid;
+use mctp::TagValue;
+use state::Sizes;
+use words::advance;
+use words::cookie_from;
+use words::flag_word;
+use words::fragmenter_of;
+use words::handle_words;
+use words::is_lawful;
+use words::message_words;
+use words::send_of;
+use words::tag_from;
+use words::words_of;
+
+fn done_no(d: Done) -> u8
+    ensures { λ r. ⌜ r ≡ doneNo d ⌝ }
+{
+    match d {
+        Done::Done => 0,
+        Done::Refused(err) => err.number(),
+    }
+}
+
+// A new stack in the front of a buffer of at least 2,248 bytes; what lies past it stays.
+#[no_mangle]
+pub extern "C" fn hyphaloom_new(state: &mut [u8], own: u8, mtu: usize, clock: u64) -> u8
+    ensures said { λ r. ⌜ r ≡ doneNo (newSays board (length (now (state .entry))) mtu) ⌝ }
+    ensures stack { λ _. ⌜ NewMakes (newSays board (length (now (state .entry))) mtu) board (record { 0 = own }) mtu clock (now (state .entry)) (now (state .exit)) ⌝ }
+{
+    done_no(estack::new(state, Sizes::BOARD, Eid(own), mtu, clock))
+}
+
+#[no_mangle]
+pub extern "C" fn hyphaloom_set_eid(state: &mut [u8], eid: u8) -> u8
+    requires { ⌜ Kept board (now state) ⌝ }
+    ensures said { λ r. ⌜ r ≡ doneNo (setEidOf eid (stackOf board (now (state .entry))) .said) ⌝ }
+    ensures stack { λ _. ⌜ Becomes board (now (state .entry)) (now (state .exit)) (setEidOf eid (stackOf board (now (state .entry))) .stack) ⌝ }
+{
+    done_no(estack::set_eid(state, Sizes::BOARD, eid))
+}
+
+#[no_mangle]
+pub extern "C" fn hyphaloom_eid(state: &[u8]) -> u8
+    requires { ⌜ Kept board (now state) ⌝ }
+    ensures { λ r. ⌜ r ≡ stackOf board (now (state .entry)) .head .«own_eid» .0 ⌝ }
+{
+    estack::eid(state, Sizes::BOARD).0
+}
+
+#[no_mangle]
+pub extern "C" fn hyphaloom_is_local_dest(state: &[u8], packet: &[u8]) -> bool
+    requires { ⌜ Kept board (now state) ⌝ }
+    ensures { λ r. ⌜ r ≡ localOf (now (packet .entry)) (stackOf board (now (state .entry))) ⌝ }
+{
+    estack::is_local_dest(state, Sizes::BOARD, packet)
+}
+
+// Starts a send; the fragmenter steps through its packets.
+#[no_mangle]
+pub extern "C" fn hyphaloom_start_send(
+    state: &mut [u8],
+    send: &[u64; 10],
+    fragmenter: &mut [u64; 13],
+) -> u8
+    requires { ⌜ Kept board (now state) ⌝ }
+    ensures said { λ r. ⌜ r ≡ startedNo (startOf (now (send .entry)) (stackOf board (now (state .entry))) .said) ⌝ }
+    ensures stack { λ _. ⌜ Becomes board (now (state .entry)) (now (state .exit)) (startOf (now (send .entry)) (stackOf board (now (state .entry))) .stack) ⌝ }
+    ensures fragmenter { λ _. ⌜ now (fragmenter .exit) ≡ fragmenterAfter (startOf (now (send .entry)) (stackOf board (now (state .entry))) .said) (now (fragmenter .entry)) ⌝ }
+{
+    let good = is_lawful(send);
+    if good {
+        let started = estack::start_send(state, Sizes::BOARD, send_of(send));
+        return put_started(fragmenter, started);
+    }
+    1
+}
+
+fn put_started(fragmenter: &mut [u64; 13], started: Started) -> u8
+    ensures { λ r. ⌜ r ≡ startedNo started ⌝ }
+    ensures { λ _. ⌜ now (fragmenter .exit) ≡ fragmenterAfter started (now (fragmenter .entry)) ⌝ }
+{
+    match started {
+        Started::Sends(f) => {
+            *fragmenter = words_of(f);
+            0
+        }
+        Started::Refused(err) => err.number(),
+    }
+}
+
+// One step: a packet of `len` bytes at the front of the buffer, or with `len` 0 all is sent.
+#[no_mangle]
+pub extern "C" fn hyphaloom_fragment(
+    fragmenter: &mut [u64; 13],
+    payload: &[u8],
+    out: &mut [u8],
+    len: &mut u64,
+) -> u8
+    ensures said { λ r. ⌜ r ≡ stepNo (stepOf (fragmenterOf (now (fragmenter .entry))) (now (payload .entry)) (length (now (out .entry))) .result .output) ⌝ }
+    ensures length { λ _. ⌜ now (len .exit) ≡ lengthAfter (stepOf (fragmenterOf (now (fragmenter .entry))) (now (payload .entry)) (length (now (out .entry))) .result .output) (now (len .entry)) ⌝ }
+    ensures fragmenter { λ _. ⌜ now (fragmenter .exit) ≡ steppedAfter (stepOf (fragmenterOf (now (fragmenter .entry))) (now (payload .entry)) (length (now (out .entry))) .result .next) (stepOf (fragmenterOf (now (fragmenter .entry))) (now (payload .entry)) (length (now (out .entry))) .result .output) (now (fragmenter .entry)) ⌝ }
+    ensures packet { λ _. ⌜ now (out .exit) ≡ over 0 (stepOf (fragmenterOf (now (fragmenter .entry))) (now (payload .entry)) (length (now (out .entry))) .bytes) (now (out .entry)) ⌝ }
+{
+    let f = fragmenter_of(fragmenter);
+    let plan = f.plan(payload.len(), out.len());
+    let next = plan.next;
+    let output = plan.output;
+    let said = put_step(fragmenter, len, next, output);
+    fragment::write(plan, payload, out);
+    said
+}
+
+fn put_step(fragmenter: &mut [u64; 13], len: &mut u64, next: Fragmenter, output: SendOutput) -> u8
+    ensures { λ r. ⌜ r ≡ stepNo output ⌝ }
+    ensures { λ _. ⌜ now (len .exit) ≡ lengthAfter output (now (len .entry)) ⌝ }
+    ensures { λ _. ⌜ now (fragmenter .exit) ≡ steppedAfter next output (now (fragmenter .entry)) ⌝ }
+{
+    match output {
+        SendOutput::Packet(n) => {
+            advance(fragmenter, next);
+            *len = n as u64;
+            0
+        }
+        SendOutput::Complete { tag: _, cookie: _ } => {
+            *len = 0;
+            0
+        }
+        SendOutput::Error { err, cookie: _ } => err.number(),
+    }
+}
+
+// Takes the clock: how many milliseconds may pass until the next update, and whether something expired.
+#[no_mangle]
+pub extern "C" fn hyphaloom_update(state: &mut [u8], clock: u64, next: &mut [u64; 2]) -> u8
+    requires { ⌜ Kept board (now state) ⌝ }
+    ensures said { λ r. ⌜ r ≡ updatedNo (updateOf clock (stackOf board (now (state .entry))) .said) ⌝ }
+    ensures stack { λ _. ⌜ Becomes board (now (state .entry)) (now (state .exit)) (updateOf clock (stackOf board (now (state .entry))) .stack) ⌝ }
+    ensures next { λ _. ⌜ now (next .exit) ≡ nextAfter (updateOf clock (stackOf board (now (state .entry))) .said) (now (next .entry)) ⌝ }
+{
+    match estack::update(state, Sizes::BOARD, clock) {
+        Updated::Next { millis, expired } => {
+            *next = [millis, flag_word(expired)];
+            0
+        }
+        Updated::Refused(err) => err.number(),
+    }
+}
+
+// Receives a packet: the handle of the message that it ends, or issue 0 where more is to come.
+#[no_mangle]
+pub extern "C" fn hyphaloom_receive(
+    state: &mut [u8],
+    pool: &mut [u8],
+    packet: &[u8],
+    handle: &mut [u64; 2],
+) -> u8
+    requires { ⌜ Kept board (now state) ⌝ }
+    ensures said { λ r. ⌜ r ≡ receivedNo (receiveOf 1032 (stackOf board (now (state .entry))) (length (now (pool .entry))) (now (packet .entry)) .said) ⌝ }
+    ensures stack { λ _. ⌜ Becomes board (now (state .entry)) (now (state .exit)) (receiveOf 1032 (stackOf board (now (state .entry))) (length (now (pool .entry))) (now (packet .entry)) .stack) ⌝ }
+    ensures pool { λ _. ⌜ now (pool .exit) ≡ over (receiveOf 1032 (stackOf board (now (state .entry))) (length (now (pool .entry))) (now (packet .entry)) .at) (receiveOf 1032 (stackOf board (now (state .entry))) (length (now (pool .entry))) (now (packet .entry)) .bytes) (now (pool .entry)) ⌝ }
+    ensures handle { λ _. ⌜ now (handle .exit) ≡ handleAfter (receiveOf 1032 (stackOf board (now (state .entry))) (length (now (pool .entry))) (now (packet .entry)) .said) (now (handle .entry)) ⌝ }
+{
+    let received = estack::receive(state, Sizes::BOARD, pool, packet);
+    put_received(handle, received)
+}
+
+fn put_received(handle: &mut [u64; 2], received: Received) -> u8
+    ensures { λ r. ⌜ r ≡ receivedNo received ⌝ }
+    ensures { λ _. ⌜ now (handle .exit) ≡ handleAfter received (now (handle .entry)) ⌝ }
+{
+    match received {
+        Received::More => {
+            *handle = [0, 0];
+            0
+        }
+        Received::Message(h) => {
+            *handle = handle_words(h);
+            0
+        }
+        Received::Refused(err) => err.number(),
+    }
+}
+
+fn deferred_words(d: Deferred) -> [u64; 2]
+    ensures { λ r. ⌜ r ≡ deferredWords d ⌝ }
+{
+    match d {
+        Deferred::Found(h) => handle_words(h),
+        Deferred::Nothing => [0, 0],
+    }
+}
+
+// The earliest message kept from that source under that tag: its handle, or issue 0 where there is none.
+#[no_mangle]
+pub extern "C" fn hyphaloom_get_deferred(
+    state: &mut [u8],
+    source: u8,
+    owner: u8,
+    tag: u8,
+    handle: &mut [u64; 2],
+)
+    requires { ⌜ Kept board (now state) ⌝ }
+    ensures stack { λ _. ⌜ Becomes board (now (state .entry)) (now (state .exit)) (bySourceOf (record { 0 = source }) (tagFrom (isYes owner) tag) (stackOf board (now (state .entry))) .stack) ⌝ }
+    ensures handle { λ _. ⌜ now (handle .exit) ≡ deferredWords (bySourceOf (record { 0 = source }) (tagFrom (isYes owner) tag) (stackOf board (now (state .entry))) .said) ⌝ }
+{
+    let t = tag_from(0 < owner, tag);
+    let found = estack::get_deferred(state, Sizes::BOARD, Eid(source), t);
+    *handle = deferred_words(found);
+}
+
+// The earliest message kept whose cookie is one of the list.
+#[no_mangle]
+pub extern "C" fn hyphaloom_get_deferred_bycookie(
+    state: &mut [u8],
+    cookies: &[u64],
+    handle: &mut [u64; 2],
+)
+    requires { ⌜ Kept board (now state) ⌝ }
+    ensures stack { λ _. ⌜ Becomes board (now (state .entry)) (now (state .exit)) (byCookieOf (now (cookies .entry)) (stackOf board (now (state .entry))) .stack) ⌝ }
+    ensures handle { λ _. ⌜ now (handle .exit) ≡ deferredWords (byCookieOf (now (cookies .entry)) (stackOf board (now (state .entry))) .said) ⌝ }
+{
+    let found = estack::get_deferred_bycookie(state, Sizes::BOARD, cookies);
+    *handle = deferred_words(found);
+}
+
+// The message under a handle: its body is `len` bytes of the pool from byte `at`.
+#[no_mangle]
+pub extern "C" fn hyphaloom_fetch_message(
+    state: &[u8],
+    pool: &[u8],
+    index: usize,
+    issue: u64,
+    message: &mut [u64; 10],
+) -> u8
+    requires { ⌜ Kept board (now state) ⌝ }
+    ensures said { λ r. ⌜ r ≡ fetchedNo (fetchOf 1032 (record { index = index; issue = issue }) (stackOf board (now (state .entry))) (length (now (pool .entry)))) ⌝ }
+    ensures message { λ _. ⌜ now (message .exit) ≡ messageAfter (fetchOf 1032 (record { index = index; issue = issue }) (stackOf board (now (state .entry))) (length (now (pool .entry)))) (now (message .entry)) ⌝ }
+{
+    let handle = ReceiveHandle {
+        index: index,
+        issue: issue,
+    };
+    match estack::fetch_message(state, Sizes::BOARD, pool, handle) {
+        Fetched::Message(m) => {
+            *message = message_words(m);
+            0
+        }
+        Fetched::Refused(err) => err.number(),
+    }
+}
+
+#[no_mangle]
+pub extern "C" fn hyphaloom_finished_receive(state: &mut [u8], index: usize, issue: u64) -> u8
+    requires { ⌜ Kept board (now state) ⌝ }
+    ensures said { λ r. ⌜ r ≡ doneNo (finishOf (record { index = index; issue = issue }) (stackOf board (now (state .entry))) .said) ⌝ }
+    ensures stack { λ _. ⌜ Becomes board (now (state .entry)) (now (state .exit)) (finishOf (record { index = index; issue = issue }) (stackOf board (now (state .entry))) .stack) ⌝ }
+{
+    let handle = ReceiveHandle {
+        index: index,
+        issue: issue,
+    };
+    done_no(estack::finished_receive(state, Sizes::BOARD, handle))
+}
+
+#[no_mangle]
+pub extern "C" fn hyphaloom_return_handle(state: &mut [u8], index: usize, issue: u64) -> u8
+    requires { ⌜ Kept board (now state) ⌝ }
+    ensures said { λ r. ⌜ r ≡ doneNo (returnOf (record { index = index; issue = issue }) (stackOf board (now (state .entry))) .said) ⌝ }
+    ensures stack { λ _. ⌜ Becomes board (now (state .entry)) (now (state .exit)) (returnOf (record { index = index; issue = issue }) (stackOf board (now (state .entry))) .stack) ⌝ }
+{
+    let handle = ReceiveHandle {
+        index: index,
+        issue: issue,
+    };
+    done_no(estack::return_handle(state, Sizes::BOARD, handle))
+}
+
+#[no_mangle]
+pub extern "C" fn hyphaloom_set_cookie(
+    state: &mut [u8],
+    index: usize,
+    issue: u64,
+    has_cookie: u8,
+    cookie: u64,
+) -> u8
+    requires { ⌜ Kept board (now state) ⌝ }
+    ensures said { λ r. ⌜ r ≡ doneNo (cookieOf (record { index = index; issue = issue }) (cookieFrom (isYes «has_cookie») cookie) (stackOf board (now (state .entry))) .said) ⌝ }
+    ensures stack { λ _. ⌜ Becomes board (now (state .entry)) (now (state .exit)) (cookieOf (record { index = index; issue = issue }) (cookieFrom (isYes «has_cookie») cookie) (stackOf board (now (state .entry))) .stack) ⌝ }
+{
+    let handle = ReceiveHandle {
+        index: index,
+        issue: issue,
+    };
+    let value = cookie_from(0 < has_cookie, cookie);
+    done_no(estack::set_cookie(state, Sizes::BOARD, handle, value))
+}
+
+#[no_mangle]
+pub extern "C" fn hyphaloom_cancel_flow(state: &mut [u8], source: u8, tag: u8) -> u8
+    requires { ⌜ Kept board (now state) ⌝ }
+    ensures said { λ r. ⌜ r ≡ doneNo (cancelOf (record { 0 = source }) (record { 0 = tag }) (stackOf board (now (state .entry))) .said) ⌝ }
+    ensures stack { λ _. ⌜ Becomes board (now (state .entry)) (now (state .exit)) (cancelOf (record { 0 = source }) (record { 0 = tag }) (stackOf board (now (state .entry))) .stack) ⌝ }
+{
+    done_no(estack::cancel_flow(state, Sizes::BOARD, Eid(source), TagValue(tag)))
+}
+
+// Free tags left for a peer.
+#[no_mangle]
+pub extern "C" fn hyphaloom_free_tags(state: &[u8], peer: u8) -> u8
+    requires { ⌜ Kept board (now state) ⌝ }
+    ensures { λ r. ⌜ r ≡ freeTagsOf (record { 0 = peer }) (stackOf board (now (state .entry))) ⌝ }
+{
+    estack::free_tags(state, Sizes::BOARD, Eid(peer))
+}

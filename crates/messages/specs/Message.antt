@@ -1,0 +1,39 @@
+-- A message that is handed out: what it says of the facts that fetch gives, and which bytes of the pool are its body.
+-- Leans on `octets` for parts of a buffer, on `mctp` for tags and on `estack` for the facts. Where a body would go past the pool, it is
+-- what the pool holds of it: none from a byte past the end.
+use Prim.Native.Nat.{ℕ}
+use mathlib.Core.Bool.{Bool}
+use mathlib.Core.List.{List}
+use lib.ListN.{take}
+use denote.Ref.{RefT}
+use Rattle.octets.specs.Pick.{pick}
+use Rattle.octets.specs.Bytes.{part}
+use Rattle.mctp.specs.declared.TagValue.{TagValue}
+use Rattle.mctp.specs.declared.Tag.{Tag}
+use Rattle.mctp.specs.declared.Tag.the-variants.{Owned, Unowned}
+use Rattle.estack.specs.declared.Message.{Message}
+use Rattle.messages.specs.declared.MctpMessage.{MctpMessage}
+
+-- a tag with TO as it stands in a key
+unfoldable pub tagUnder : Bool → TagValue → Tag
+tagUnder owner tag = pick owner (Owned tag) (Unowned tag)
+
+-- the message's bytes in the pool
+abbrev pub bodyOf : Message → List ℕ → List ℕ
+bodyOf facts pool = part (facts .at) (facts .len) pool
+
+-- the message over a borrowed body
+abbrev pub messageOf : Message → RefT (List ℕ) → MctpMessage
+messageOf facts body = record {
+  source = facts .key .source;
+  dest = facts .key .dest;
+  tag = tagUnder (facts .key .owner) (facts .key .tag);
+  typ = facts .typ;
+  ic = facts .ic;
+  cookie = facts .cookie;
+  payload = body;
+}
+
+-- as much of the body as n bytes hold
+abbrev pub frontOf : Message → List ℕ → ℕ → List ℕ
+frontOf facts pool n = take n (bodyOf facts pool)

@@ -1,0 +1,84 @@
+// A handed-out message: a record that borrows its body from the pool, after the Rust's MctpMessage.
+// Leans on `estack` for the facts of a message, by value, and on `copying` for the copying leaf. Definitions: specs/Message.antt.
+ghost use mathlib.Core.Path.{_≡_};
+ghost use lib.ListN.{length};
+ghost use Rattle.octets.specs.Bytes.{over, part};
+ghost use Rattle.messages.specs.Message.{tagUnder, bodyOf, messageOf, frontOf};
+use estack::Message;
+use mctp::Cookie;
+use mctp::Eid;
+use mctp::MsgIC;
+use mctp::MsgType;
+use mctp::Tag;
+use mctp::TagValue;
+
+pub struct MctpMessage<'a> {
+    pub source: Eid,
+    pub dest: Eid,
+    pub tag: Tag,
+    pub typ: MsgType,
+    pub ic: MsgIC,
+    pub cookie: Cookie,
+    pub payload: &'a [u8],
+}
+
+fn tag_under(owner: bool, tag: TagValue) -> Tag
+    ensures { λ r. ⌜ r ≡ tagUnder owner tag ⌝ }
+{
+    if owner {
+        return Tag::Owned(tag);
+    }
+    Tag::Unowned(tag)
+}
+
+// `len` bytes from byte `at`, as far as there are any.
+fn stretch(bytes: &[u8], at: usize, len: usize) -> &[u8]
+    ensures { λ r. ⌜ now r ≡ part at len (now (bytes .entry)) ⌝ }
+{
+    let size = bytes.len();
+    if size < at {
+        return &bytes[size..];
+    }
+    if size - at < len {
+        return &bytes[at..];
+    }
+    let end = at + len;
+    &bytes[at..end]
+}
+
+// The message of these facts, its body lent from the pool.
+pub fn lend_message<'a>(pool: &'a [u8], facts: Message) -> MctpMessage<'a>
+    ensures fields { λ m. ⌜ m ≡ messageOf facts (m .payload) ⌝ }
+    ensures body { λ m. ⌜ now (m .payload) ≡ bodyOf facts (now (pool .entry)) ⌝ }
+{
+    let tag = tag_under(facts.key.owner, facts.key.tag);
+    let payload = stretch(pool, facts.at, facts.len);
+    MctpMessage {
+        source: facts.key.source,
+        dest: facts.key.dest,
+        tag: tag,
+        typ: facts.typ,
+        ic: facts.ic,
+        cookie: facts.cookie,
+        payload: payload,
+    }
+}
+
+// The body alone, over a message: with plain parameters, for every other caller.
+pub fn lend_body<'a>(pool: &'a [u8], facts: Message) -> &'a [u8]
+    ensures { λ r. ⌜ now r ≡ bodyOf facts (now (pool .entry)) ⌝ }
+{
+    let m = lend_message(pool, facts);
+    m.payload
+}
+
+// As much of the body as the buffer holds, over its front; how many bytes that is.
+pub fn copy_body(pool: &[u8], facts: Message, out: &mut [u8]) -> usize
+    ensures count { λ r. ⌜ r ≡ length (frontOf facts (now (pool .entry)) (length (now (out .entry)))) ⌝ }
+    ensures bytes { λ _. ⌜ now (out .exit) ≡ over 0 (frontOf facts (now (pool .entry)) (length (now (out .entry)))) (now (out .entry)) ⌝ }
+{
+    let body = lend_body(pool, facts);
+    let front = stretch(body, 0, out.len());
+    copying::copy(out, front);
+    front.len()
+}

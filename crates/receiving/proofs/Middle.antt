@@ -1,0 +1,73 @@
+-- A middle packet: one event is counted, of its slot the sequence and the length alone change, and its bytes go where the body ends.
+use Prim.Native.Nat.{ℕ, _+_, _-_, _%_, _≤_}
+use native.Mathlib.Omega.{arith}
+use mathlib.Core.Path.{_≡_, sym, ap, subst, _∙_}
+use mathlib.Core.Bool.{Bool, true, false}
+use mathlib.Core.List.{List}
+use lib.ListN.{length}
+use borrow.Author.Tests.{eq-eqb, eqb-true, leb-true, le-ltb}
+use Rattle.octets.specs.Pick.{pick, pick-true, pick-false, pick-cases}
+use Rattle.octets.proofs.Bools.{false-true}
+use Rattle.mctp.specs.declared.Header.{Header}
+use Rattle.stamp.specs.declared.EventStamp.{EventStamp}
+use Rattle.reassemble.specs.declared.Reassembler.{Reassembler}
+use Rattle.reassemble.specs.declared.Outcome.the-variants.{More as Going}
+use Rattle.reassemble.specs.declared.Entry.{Entry}
+use Rattle.reassemble.specs.declared.Gate.the-variants.{Pass}
+use Rattle.reassemble.specs.Enter.{enter, append, appended, outcomeOf}
+use Rattle.state.specs.declared.Progress.{Progress}
+use Rattle.state.specs.Slot.{progress, progressOf}
+use Rattle.state.specs.Stack.{Stack}
+use Rattle.tables.specs.Walks.{ticked}
+use Rattle.receiving.specs.Receive.{goesOn, settled, land}
+
+record Goes (h : Header) (g : Progress) (n B : ℕ) : Type 0 where
+  pub som : h .som ≡ false
+  pub eom : h .eom ≡ false
+  pub seq : h .seq ≡ g .seq
+  pub room : n ≤ B - g .len
+
+goes : (h : Header) (g : Progress) (n B : ℕ) → goesOn h g n B ≡ true → Goes h g n B
+unfolding goesOn
+goes h g n B =
+    pick-cases (λ (b : Bool). b ≡ true → Goes h g n B) (λ _ e. false-true e)
+    (λ som. pick-cases (λ (b : Bool). b ≡ true → Goes h g n B) (λ _ e. false-true e)
+    (λ eom. pick-cases (λ (b : Bool). b ≡ true → Goes h g n B)
+    (λ same e. record { som = som; eom = eom; seq = eqb-true (h .seq) (g .seq) same; room = leb-true n (B - g .len) e })
+    (λ _ e. false-true e)))
+
+-- what such a packet has room for
+pub goes-room : (h : Header) (g : Progress) (n B : ℕ) → g .len ≤ B → goesOn h g n B ≡ true → g .len + n ≤ B
+goes-room h g n B l e = let r = goes h g n B e .room in omega arith
+
+-- what such a packet makes of a slot that held len bytes
+abbrev pub grown : List ℕ → Reassembler → ℕ → ℕ → Entry
+grown p s seq len = record { slot = progress ((seq % 4 + 1) % 4) (len + (length p - 4)) s; at = len; from = 4; outcome = Going }
+
+module _ (B : ℕ) (h : Header) (p : List ℕ) (s : Reassembler) where
+  abbrev taken : EventStamp → ℕ → Bool → Entry
+  taken now issue eom = record { slot = appended eom now issue (length p - 4) s; at = s .len; from = 4; outcome = outcomeOf eom }
+
+  entry : (now : EventStamp) (issue : ℕ) → s .len ≤ B → goesOn h (progressOf s) (length p - 4) B ≡ true → enter B now issue s h p ≡ grown p s (h .seq) (s .len)
+  unfolding enter append pick
+  entry now issue l e =
+      let g = goes h (progressOf s) (length p - 4) B e in
+      let r = goes-room h (progressOf s) (length p - 4) B l e in
+      pick-false (h .som) _ _ (g .som)
+      ∙ pick-true _ _ _ (eq-eqb (h .seq) (s .«next_seq») (g .seq))
+      ∙ pick-false _ _ _ (le-ltb B (s .len + (length p - 4)) r)
+      ∙ ap (taken now issue) (g .eom)
+      ∙ ap (λ (q : ℕ). grown p s q (s .len)) (sym (g .seq))
+
+  module _ (i : ℕ) (st : Stack) where
+    landed : s .len ≤ B → goesOn h (progressOf s) (length p - 4) B ≡ true → land B i st h p (Pass s) ≡ settled B i (ticked st) (h .key) p (grown p s (h .seq) (s .len))
+    unfolding land
+    landed l e = ap (settled B i (ticked st) (h .key) p) (entry _ _ l e)
+
+    -- the event, then the slot with that sequence and length, and the packet's bytes behind the body
+    pub middle : (g : Progress) → g ≡ progressOf s → g .len ≤ B → goesOn h g (length p - 4) B ≡ true
+        → land B i st h p (Pass s) ≡ settled B i (ticked st) (h .key) p (grown p s (h .seq) (g .len))
+    middle g q =
+        subst
+        (λ (x : Progress). x .len ≤ B → goesOn h x (length p - 4) B ≡ true → land B i st h p (Pass s) ≡ settled B i (ticked st) (h .key) p (grown p s (h .seq) (x .len)))
+        (sym q) landed

@@ -1,0 +1,2 @@
+-- The laws of the records.
+pub mod Laws

@@ -1,0 +1,122 @@
+-- Records as rows of 64-bit numbers, for callers that hold only numbers: a send, a fragmenter, a handle, a message.
+-- A yes or no is written 1 or 0, and any number but 0 is read as yes. Leans on the records of `mctp`, `fragment` and `estack`.
+use Prim.Native.Nat.{ℕ, _%_}
+use mathlib.Core.Bool.{Bool, true, false}
+use mathlib.Core.List.{List, [], _∷_}
+use lib.Dec.{ltb, eqb}
+use lib.ListN.{getD, set}
+use Rattle.octets.specs.Pick.{pick}
+use Rattle.mctp.specs.declared.Tag.{Tag}
+use Rattle.mctp.specs.declared.Tag.the-variants.{Owned, Unowned}
+use Rattle.mctp.specs.declared.Cookie.{Cookie}
+use Rattle.mctp.specs.declared.Cookie.the-variants.{Absent, Given}
+use Rattle.mctp.specs.Terms.{tagOf, isOwner, cookieNo, cookieValue}
+use Rattle.fragment.specs.declared.Fragmenter.{Fragmenter}
+use Rattle.receiving.specs.declared.ReceiveHandle.{ReceiveHandle}
+use Rattle.estack.specs.declared.Message.{Message}
+use Rattle.estack.specs.declared.Send.{Send}
+use Rattle.estack.specs.declared.SendTag.{SendTag}
+use Rattle.estack.specs.declared.SendTag.the-variants.{Fresh, Given as This}
+use Rattle.estack.specs.declared.SendMtu.{SendMtu}
+use Rattle.estack.specs.declared.SendMtu.the-variants.{Own, AtMost}
+
+-- word i of a row
+abbrev pub word : ℕ → List ℕ → ℕ
+word i w = getD w i 0
+
+abbrev pub flagWord : Bool → ℕ
+flagWord true = 1
+flagWord false = 0
+
+abbrev pub isYes : ℕ → Bool
+isYes w = ltb 0 w
+
+-- a number taken as a byte: its low eight bits
+abbrev pub narrow : ℕ → ℕ
+narrow w = w % 256
+
+unfoldable pub tagFrom : Bool → ℕ → Tag
+tagFrom owner t = pick owner (Owned (record { 0 = t })) (Unowned (record { 0 = t }))
+
+unfoldable pub cookieFrom : Bool → ℕ → Cookie
+cookieFrom has value = pick has (Given (record { 0 = value })) Absent
+
+-- A send: destination, type, kind of tag, tag, expires, IC, has an MTU, MTU, has a cookie, cookie. The kind of tag is 0 for a fresh one, 1 for an owned
+-- and 2 for an unowned one that is given.
+
+-- destination, type and tag are bytes, and the kind of tag is one of the three
+unfoldable pub lawful : List ℕ → Bool
+lawful w = pick (ltb 255 (word 0 w)) false (pick (ltb 255 (word 1 w)) false (pick (ltb 2 (word 2 w)) false (ltb (word 3 w) 256)))
+
+unfoldable pub sendTagFrom : ℕ → ℕ → SendTag
+sendTagFrom kind t = pick (eqb kind 0) Fresh (This (tagFrom (eqb kind 1) t))
+
+unfoldable pub sendMtuFrom : Bool → ℕ → SendMtu
+sendMtuFrom has mtu = pick has (AtMost mtu) Own
+
+abbrev pub sendOf : List ℕ → Send
+sendOf w = record {
+  dest = record { 0 = narrow (word 0 w) };
+  typ = record { 0 = narrow (word 1 w) };
+  tag = sendTagFrom (word 2 w) (narrow (word 3 w));
+  expires = isYes (word 4 w);
+  ic = record { 0 = isYes (word 5 w) };
+  mtu = sendMtuFrom (isYes (word 6 w)) (word 7 w);
+  cookie = cookieFrom (isYes (word 8 w)) (word 9 w);
+}
+
+-- A fragmenter: source, destination, type, TO, tag, IC, sequence, MTU, first, done, has a cookie, cookie, bytes sent.
+abbrev pub wordsOf : Fragmenter → List ℕ
+wordsOf f =
+    f .src .0
+    ∷ f .dest .0
+    ∷ f .typ .0
+    ∷ flagWord (isOwner (f .tag))
+    ∷ tagOf (f .tag) .0
+    ∷ flagWord (f .ic .0)
+    ∷ f .seq
+    ∷ f .mtu
+    ∷ flagWord (f .first)
+    ∷ flagWord (f .done)
+    ∷ cookieNo (f .cookie)
+    ∷ cookieValue (f .cookie)
+    ∷ f .«payload_used»
+    ∷ []
+
+-- the row after a packet: sequence, first, done and the bytes sent are the next fragmenter's, the other words stay
+abbrev pub advancedRow : Fragmenter → List ℕ → List ℕ
+advancedRow next w = set (set (set (set w 6 (next .seq)) 8 (flagWord (next .first))) 9 (flagWord (next .done))) 12 (next .«payload_used»)
+
+abbrev pub fragmenterOf : List ℕ → Fragmenter
+fragmenterOf w = record {
+  src = record { 0 = narrow (word 0 w) };
+  dest = record { 0 = narrow (word 1 w) };
+  typ = record { 0 = narrow (word 2 w) };
+  tag = tagFrom (isYes (word 3 w)) (narrow (word 4 w));
+  ic = record { 0 = isYes (word 5 w) };
+  seq = narrow (word 6 w);
+  mtu = word 7 w;
+  first = isYes (word 8 w);
+  done = isYes (word 9 w);
+  cookie = cookieFrom (isYes (word 10 w)) (word 11 w);
+  «payload_used» = word 12 w;
+}
+
+-- A handle: index, issue number. No handle has issue number 0.
+abbrev pub handleWords : ReceiveHandle → List ℕ
+handleWords h = h .index ∷ h .issue ∷ []
+
+-- A message: source, destination, TO, tag, type, IC, has a cookie, cookie, the body's place in the pool and its length.
+abbrev pub messageWords : Message → List ℕ
+messageWords m =
+    m .key .source .0
+    ∷ m .key .dest .0
+    ∷ flagWord (m .key .owner)
+    ∷ m .key .tag .0
+    ∷ m .typ .0
+    ∷ flagWord (m .ic .0)
+    ∷ cookieNo (m .cookie)
+    ∷ cookieValue (m .cookie)
+    ∷ m .at
+    ∷ m .len
+    ∷ []

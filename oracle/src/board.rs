@@ -1,0 +1,422 @@
+//! The proved port, through the calls that its archive exports.
+//!
+//! Its state is bytes in a private buffer, with guard bytes on both sides. Rows are filled before a call, and a refusal
+//! must leave them so. What is not as it must be is a panic, which a comparison counts as a difference.
+
+use crate::port::*;
+use crate::rows::*;
+
+/// The calls over slices and rows.
+pub mod raw {
+    /// How many bytes a state has.
+    pub const STATE: usize = 2248;
+
+    mod exported {
+        extern "C" {
+            pub fn hyphaloom_new(state: *mut u8, len: usize, own: u8, mtu: usize, clock: u64) -> u8;
+            pub fn hyphaloom_set_eid(state: *mut u8, len: usize, eid: u8) -> u8;
+            pub fn hyphaloom_eid(state: *const u8, len: usize) -> u8;
+            pub fn hyphaloom_is_local_dest(state: *const u8, len: usize, packet: *const u8, packet_len: usize) -> bool;
+            pub fn hyphaloom_start_send(
+                state: *mut u8,
+                len: usize,
+                send: *const [u64; 10],
+                fragmenter: *mut [u64; 13],
+            ) -> u8;
+            pub fn hyphaloom_fragment(
+                fragmenter: *mut [u64; 13],
+                payload: *const u8,
+                payload_len: usize,
+                out: *mut u8,
+                out_len: usize,
+                len: *mut u64,
+            ) -> u8;
+            pub fn hyphaloom_update(state: *mut u8, len: usize, clock: u64, next: *mut [u64; 2]) -> u8;
+            pub fn hyphaloom_receive(
+                state: *mut u8,
+                len: usize,
+                pool: *mut u8,
+                pool_len: usize,
+                packet: *const u8,
+                packet_len: usize,
+                handle: *mut [u64; 2],
+            ) -> u8;
+            pub fn hyphaloom_get_deferred(
+                state: *mut u8,
+                len: usize,
+                source: u8,
+                owner: u8,
+                tag: u8,
+                handle: *mut [u64; 2],
+            );
+            pub fn hyphaloom_get_deferred_bycookie(
+                state: *mut u8,
+                len: usize,
+                cookies: *const u64,
+                count: usize,
+                handle: *mut [u64; 2],
+            );
+            pub fn hyphaloom_fetch_message(
+                state: *const u8,
+                len: usize,
+                pool: *const u8,
+                pool_len: usize,
+                index: usize,
+                issue: u64,
+                message: *mut [u64; 10],
+            ) -> u8;
+            pub fn hyphaloom_finished_receive(state: *mut u8, len: usize, index: usize, issue: u64) -> u8;
+            pub fn hyphaloom_return_handle(state: *mut u8, len: usize, index: usize, issue: u64) -> u8;
+            pub fn hyphaloom_set_cookie(
+                state: *mut u8,
+                len: usize,
+                index: usize,
+                issue: u64,
+                has_cookie: u8,
+                cookie: u64,
+            ) -> u8;
+            pub fn hyphaloom_cancel_flow(state: *mut u8, len: usize, source: u8, tag: u8) -> u8;
+            pub fn hyphaloom_free_tags(state: *const u8, len: usize, peer: u8) -> u8;
+        }
+    }
+    use exported::*;
+
+    pub fn new(state: &mut [u8], own: u8, mtu: usize, clock: u64) -> u8 {
+        unsafe { hyphaloom_new(state.as_mut_ptr(), state.len(), own, mtu, clock) }
+    }
+
+    pub fn set_eid(state: &mut [u8], eid: u8) -> u8 {
+        unsafe { hyphaloom_set_eid(state.as_mut_ptr(), state.len(), eid) }
+    }
+
+    pub fn eid(state: &[u8]) -> u8 {
+        unsafe { hyphaloom_eid(state.as_ptr(), state.len()) }
+    }
+
+    pub fn is_local_dest(state: &[u8], packet: &[u8]) -> bool {
+        unsafe { hyphaloom_is_local_dest(state.as_ptr(), state.len(), packet.as_ptr(), packet.len()) }
+    }
+
+    pub fn start_send(state: &mut [u8], send: &[u64; 10], fragmenter: &mut [u64; 13]) -> u8 {
+        unsafe { hyphaloom_start_send(state.as_mut_ptr(), state.len(), send, fragmenter) }
+    }
+
+    pub fn fragment(fragmenter: &mut [u64; 13], payload: &[u8], out: &mut [u8], len: &mut u64) -> u8 {
+        let (from, to) = (payload.as_ptr(), out.as_mut_ptr());
+        unsafe { hyphaloom_fragment(fragmenter, from, payload.len(), to, out.len(), len) }
+    }
+
+    pub fn update(state: &mut [u8], clock: u64, next: &mut [u64; 2]) -> u8 {
+        unsafe { hyphaloom_update(state.as_mut_ptr(), state.len(), clock, next) }
+    }
+
+    pub fn receive(state: &mut [u8], pool: &mut [u8], packet: &[u8], handle: &mut [u64; 2]) -> u8 {
+        let (at, len) = (state.as_mut_ptr(), state.len());
+        unsafe { hyphaloom_receive(at, len, pool.as_mut_ptr(), pool.len(), packet.as_ptr(), packet.len(), handle) }
+    }
+
+    pub fn get_deferred(state: &mut [u8], source: u8, owner: bool, tag: u8, handle: &mut [u64; 2]) {
+        unsafe { hyphaloom_get_deferred(state.as_mut_ptr(), state.len(), source, owner.into(), tag, handle) }
+    }
+
+    pub fn get_deferred_bycookie(state: &mut [u8], cookies: &[u64], handle: &mut [u64; 2]) {
+        let (at, len) = (state.as_mut_ptr(), state.len());
+        unsafe { hyphaloom_get_deferred_bycookie(at, len, cookies.as_ptr(), cookies.len(), handle) }
+    }
+
+    pub fn fetch_message(state: &[u8], pool: &[u8], index: usize, issue: u64, message: &mut [u64; 10]) -> u8 {
+        let (at, len) = (state.as_ptr(), state.len());
+        unsafe { hyphaloom_fetch_message(at, len, pool.as_ptr(), pool.len(), index, issue, message) }
+    }
+
+    pub fn finished_receive(state: &mut [u8], index: usize, issue: u64) -> u8 {
+        unsafe { hyphaloom_finished_receive(state.as_mut_ptr(), state.len(), index, issue) }
+    }
+
+    pub fn return_handle(state: &mut [u8], index: usize, issue: u64) -> u8 {
+        unsafe { hyphaloom_return_handle(state.as_mut_ptr(), state.len(), index, issue) }
+    }
+
+    pub fn set_cookie(state: &mut [u8], index: usize, issue: u64, cookie: Option<u64>) -> u8 {
+        let (has, value) = (cookie.is_some().into(), cookie.unwrap_or(0));
+        unsafe { hyphaloom_set_cookie(state.as_mut_ptr(), state.len(), index, issue, has, value) }
+    }
+
+    pub fn cancel_flow(state: &mut [u8], source: u8, tag: u8) -> u8 {
+        unsafe { hyphaloom_cancel_flow(state.as_mut_ptr(), state.len(), source, tag) }
+    }
+
+    pub fn free_tags(state: &[u8], peer: u8) -> u8 {
+        unsafe { hyphaloom_free_tags(state.as_ptr(), state.len(), peer) }
+    }
+}
+
+// Where the parts of the state lie
+const FLOWS_AT: usize = 40;
+const FLOW: usize = 32;
+const SLOTS_AT: usize = FLOWS_AT + FLOW * FLOWS;
+const SLOT: usize = 40;
+const COUNTER_AT: usize = 4;
+const ISSUE_AT: usize = 24;
+
+const GUARD: u8 = 0xc5;
+/// What rows hold before a call.
+const MARK: u64 = 7777;
+
+#[repr(C)]
+struct Guarded {
+    before: [u8; 64],
+    state: [u8; raw::STATE],
+    after: [u8; 64],
+}
+
+pub struct Board(Box<Guarded>);
+
+/// A row that a call is lent, with one more word behind it.
+#[repr(C)]
+pub struct Row<const N: usize> {
+    words: [u64; N],
+    after: u64,
+}
+
+impl<const N: usize> Row<N> {
+    fn new() -> Self {
+        Self { words: [MARK; N], after: MARK }
+    }
+
+    /// The row after a call that answered `number`.
+    fn after(self, number: u8) -> Result<Self, Refusal> {
+        assert_eq!(self.after, MARK, "a word behind a row changed");
+        told(number).inspect_err(|_| assert_eq!(self.words, [MARK; N], "a refusal changed a row"))?;
+        Ok(self)
+    }
+}
+
+/// 0, or a refusal's number.
+fn told(number: u8) -> Result<(), Refusal> {
+    use Refusal::*;
+    let refusals = [InvalidInput, NoSpace, BadArgument, TagUnavailable, Unreachable, PoolShort];
+    match number {
+        0 => Ok(()),
+        _ => Err(*refusals.get(usize::from(number) - 1).unwrap_or_else(|| panic!("no refusal: {number}"))),
+    }
+}
+
+fn handle_of([index, issue]: [u64; 2]) -> Option<Handle> {
+    assert!(issue > 0 || index == 0, "an index {index} without a handle");
+    (issue > 0).then_some(Handle { index: index as usize, issue })
+}
+
+// Decoding
+
+/// The number in so many bytes, the lowest first.
+fn number(bytes: &[u8], at: usize, width: usize) -> u64 {
+    let mut wide = [0; 8];
+    wide[..width].copy_from_slice(&bytes[at..at + width]);
+    u64::from_le_bytes(wide)
+}
+
+fn stamp(bytes: &[u8], clock: usize, counter: usize) -> Stamp {
+    Stamp { clock: number(bytes, clock, 8), counter: number(bytes, counter, 4) as u32 }
+}
+
+fn flag(byte: u8) -> bool {
+    assert!(byte < 2, "{byte} is neither yes nor no");
+    byte == 1
+}
+
+fn zeros(bytes: &[u8], unused: &[usize]) {
+    assert!(unused.iter().all(|at| bytes[*at] == 0), "an unused byte is not 0: {bytes:02x?}");
+}
+
+fn flow_view(b: &[u8]) -> Option<FlowView> {
+    if !flag(b[0]) {
+        return None;
+    }
+    zeros(b, &[3, 5, 7, 28, 29, 30, 31]);
+    Some(FlowView {
+        peer: b[1],
+        tag: b[2],
+        cookie: flag(b[4]).then(|| number(b, 8, 8)),
+        expiry: flag(b[6]).then(|| stamp(b, 16, 24)),
+    })
+}
+
+fn slot_view(b: &[u8], pool: &[u8]) -> Option<SlotView> {
+    let phase = match b[0] {
+        0 => return None,
+        1 => Phase::Collecting { expect: b[5] },
+        2 => Phase::Done { handle: None },
+        3 => Phase::Done { handle: Some(number(b, 32, 8)) },
+        other => panic!("no state of a slot: {other}"),
+    };
+    zeros(b, &[13, 14, 15]);
+    Some(SlotView {
+        phase,
+        source: b[2],
+        dest: b[1],
+        tag: Tag { owner: flag(b[3] >> 3), value: b[3] & 7 },
+        typ: b[4] & 0x7f,
+        ic: b[4] >> 7 == 1,
+        cookie: flag(b[12]).then(|| number(b, 24, 8)),
+        stamp: stamp(b, 16, 8),
+        body: pool[..number(b, 6, 2) as usize].to_vec(),
+    })
+}
+
+impl Board {
+    /// The state, lent to a call; afterwards the guards are looked at.
+    fn lend<T>(&mut self, call: impl FnOnce(&mut [u8]) -> T) -> T {
+        let answer = call(&mut self.0.state);
+        self.look();
+        answer
+    }
+
+    fn look(&self) {
+        assert_eq!(self.0.before, [GUARD; 64], "bytes before the state changed");
+        assert_eq!(self.0.after, [GUARD; 64], "bytes behind the state changed");
+    }
+
+    fn state(&self) -> &[u8] {
+        &self.0.state
+    }
+
+    fn flow_views(&self) -> Vec<FlowView> {
+        let places = self.state()[FLOWS_AT..SLOTS_AT].chunks_exact(FLOW);
+        let mut flows: Vec<_> = places.filter_map(flow_view).collect();
+        flows.sort();
+        flows
+    }
+}
+
+impl Port for Board {
+    type Fragmenter = Row<13>;
+
+    /// The buffer is filled before: `new` sets every byte that is read later, or none when it refuses.
+    fn new(own: u8, mtu: usize, clock: u64) -> Result<Self, Refusal> {
+        let guarded = Guarded { before: [GUARD; 64], state: [GUARD; raw::STATE], after: [GUARD; 64] };
+        let mut board = Board(Box::new(guarded));
+        let said = told(board.lend(|state| raw::new(state, own, mtu, clock)));
+        said.inspect_err(|_| assert!(board.state().iter().all(|b| *b == GUARD), "a refused new changed the state"))?;
+        Ok(board)
+    }
+
+    fn set_eid(&mut self, eid: u8) -> Result<(), Refusal> {
+        told(self.lend(|state| raw::set_eid(state, eid)))
+    }
+
+    fn eid(&self) -> u8 {
+        raw::eid(self.state())
+    }
+
+    fn is_local_dest(&self, packet: &[u8]) -> bool {
+        raw::is_local_dest(self.state(), packet)
+    }
+
+    fn start_send(&mut self, send: &Send) -> Result<Row<13>, Refusal> {
+        let mut row = Row::new();
+        let number = self.lend(|state| raw::start_send(state, &send_row(send), &mut row.words));
+        row.after(number)
+    }
+
+    fn fragment(fragmenter: &mut Row<13>, payload: &[u8], out: &mut [u8]) -> Step {
+        let before = fragmenter.words;
+        let mut len = MARK;
+        let said = told(raw::fragment(&mut fragmenter.words, payload, out, &mut len));
+        assert_eq!(fragmenter.after, MARK, "a word behind a row changed");
+        if said.is_ok() && len > 0 {
+            return Step::Packet(len as usize);
+        }
+        assert_eq!(fragmenter.words, before, "a step without a packet changed the fragmenter");
+        let FragmenterView { tag, cookie, .. } = fragmenter_of(&before);
+        match said {
+            Ok(()) => Step::Complete(tag, cookie),
+            Err(refusal) => {
+                assert_eq!(len, MARK, "a refusal changed the length");
+                Step::Refused(refusal, cookie)
+            }
+        }
+    }
+
+    fn update(&mut self, clock: u64) -> Result<(u64, bool), Refusal> {
+        let mut row = Row::new();
+        let number = self.lend(|state| raw::update(state, clock, &mut row.words));
+        let [next, expired] = row.after(number)?.words;
+        assert!(expired < 2, "{expired} is neither yes nor no");
+        Ok((next, expired == 1))
+    }
+
+    fn receive(&mut self, packet: &[u8], pool: &mut [u8]) -> Result<Received, Refusal> {
+        let mut row = Row::new();
+        let number = self.lend(|state| raw::receive(state, pool, packet, &mut row.words));
+        let Some(handle) = handle_of(row.after(number)?.words) else { return Ok(Received::More) };
+        let message = self.fetch_message(handle, pool).expect("the message just handed out");
+        Ok(Received::Message(message, handle))
+    }
+
+    fn get_deferred(&mut self, source: u8, tag: Tag) -> Option<Handle> {
+        let mut row = Row::new();
+        self.lend(|state| raw::get_deferred(state, source, tag.owner, tag.value, &mut row.words));
+        handle_of(row.after(0).ok()?.words)
+    }
+
+    fn get_deferred_bycookie(&mut self, cookies: &[u64]) -> Option<Handle> {
+        let mut row = Row::new();
+        self.lend(|state| raw::get_deferred_bycookie(state, cookies, &mut row.words));
+        handle_of(row.after(0).ok()?.words)
+    }
+
+    fn fetch_message(&mut self, handle: Handle, pool: &[u8]) -> Result<Message, Refusal> {
+        let mut row = Row::new();
+        let number = self.lend(|state| raw::fetch_message(state, pool, handle.index, handle.issue, &mut row.words));
+        let row = row.after(number)?.words;
+        assert_eq!(row[8], (BODY * handle.index) as u64, "the body's place");
+        Ok(message_of(&row, pool))
+    }
+
+    fn finished_receive(&mut self, handle: Handle) -> Result<(), Refusal> {
+        told(self.lend(|state| raw::finished_receive(state, handle.index, handle.issue)))
+    }
+
+    fn return_handle(&mut self, handle: Handle) -> Result<(), Refusal> {
+        told(self.lend(|state| raw::return_handle(state, handle.index, handle.issue)))
+    }
+
+    fn set_cookie(&mut self, handle: Handle, cookie: Cookie) -> Result<(), Refusal> {
+        told(self.lend(|state| raw::set_cookie(state, handle.index, handle.issue, cookie)))
+    }
+
+    fn cancel_flow(&mut self, source: u8, tag: u8) -> Result<(), Refusal> {
+        told(self.lend(|state| raw::cancel_flow(state, source, tag)))
+    }
+
+    fn free_tags(&self, peer: u8) -> u8 {
+        raw::free_tags(self.state(), peer)
+    }
+
+    fn snapshot(&self, pool: &[u8]) -> Snapshot {
+        let state = self.state();
+        zeros(state, &[3]);
+        let slot = |index| slot_view(&state[SLOTS_AT + SLOT * index..][..SLOT], &pool[BODY * index..]);
+        Snapshot {
+            own: state[0],
+            mtu: number(state, 32, 8) as usize,
+            now: stamp(state, 8, COUNTER_AT),
+            planned: number(state, 16, 8),
+            next_tag: state[1],
+            next_seq: state[2],
+            issues: number(state, ISSUE_AT, 8),
+            flows: self.flow_views(),
+            slots: std::array::from_fn(slot),
+        }
+    }
+
+    fn view(fragmenter: &Row<13>) -> FragmenterView {
+        fragmenter_of(&fragmenter.words)
+    }
+
+    fn preset(&mut self, counter: u32, issues: u64) {
+        self.0.state[COUNTER_AT..][..4].copy_from_slice(&counter.to_le_bytes());
+        self.0.state[ISSUE_AT..][..8].copy_from_slice(&issues.to_le_bytes());
+    }
+}

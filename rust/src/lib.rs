@@ -1,0 +1,85 @@
+//! The IO-less core of an MCTP stack (DMTF DSP0236), proved in Rattle and called from Rust.
+//!
+//! A [`Stack`] cuts messages into packets, joins packets into messages, keeps the flows of requests that wait for a reply, and
+//! tells what has timed out. It drives no wire and has no heap: packets go through lent buffers, and bodies of messages lie in
+//! a pool that the caller lends. Every call answers every input; [`Error`] has all its refusals.
+//!
+//! The proofs hold for a state that the calls themselves have made. [`Stack`] keeps its state to itself, so safe Rust cannot
+//! break that premise.
+//!
+//! # A request and its reply
+//!
+//! ```
+//! use hyphaloom::{config::POOL_BYTES, AppCookie, Eid, MsgIC, MsgType, Pool, Result, SendOutput, Stack, Tag};
+//!
+//! # fn main() -> Result<()> {
+//! let mut board = Stack::new(Eid(8), 64, 0)?;
+//! let mut blade = Stack::new(Eid(9), 64, 0)?;
+//! let mut board_pool: Pool = [0; POOL_BYTES];
+//! let mut blade_pool: Pool = [0; POOL_BYTES];
+//! let mut packet = [0; 64];
+//!
+//! // The board asks. `None` takes a free tag, and the cookie comes back with the reply.
+//! let mut request = board.start_send(Eid(9), MsgType(1), None, true, MsgIC(false), None, Some(AppCookie(7)))?;
+//! let mut asked = None;
+//! while let SendOutput::Packet(p) = request.fragment(b"who?", &mut packet) {
+//!     asked = blade.receive(&mut blade_pool, p)?.map(|(_, handle)| handle);
+//! }
+//!
+//! // The blade looks at the question and answers under the board's tag.
+//! let handle = asked.expect("the last packet closes the message");
+//! let question = blade.fetch_message(&blade_pool, &handle)?;
+//! assert_eq!((question.source, question.payload), (Eid(8), &b"who?"[..]));
+//! let tag = Tag::Unowned(question.tag.tag());
+//! let mut reply = blade.start_send(question.source, question.typ, Some(tag), false, MsgIC(false), None, None)?;
+//! blade.finished_receive(handle)?;
+//!
+//! // The board takes the reply, with the cookie of its question.
+//! while let SendOutput::Packet(p) = reply.fragment(b"blade 41", &mut packet) {
+//!     if let Some((message, handle)) = board.receive(&mut board_pool, p)? {
+//!         assert_eq!((message.payload, message.cookie), (&b"blade 41"[..], Some(AppCookie(7))));
+//!         board.finished_receive(handle)?;
+//!     }
+//! }
+//! # Ok(())
+//! # }
+//! ```
+//!
+//! # Coming from mctp-estack 0.1.0
+//!
+//! Names and behaviour are those of its `Stack`, but:
+//!
+//! - `receive` and `fetch_message` are lent the pool.
+//! - `new` and the calls under a handle give a `Result` where the original panics.
+//! - `fetch_message_with` is left out: fetch, then finish.
+//! - [`AppCookie`] is a `u64`; [`Stack::free_tags`] and [`Error::PoolShort`] are added.
+
+#![no_std]
+#![deny(missing_docs)]
+#![deny(unsafe_code)]
+
+pub mod config;
+mod error;
+#[allow(unsafe_code)]
+mod ffi;
+pub mod fragment;
+mod stack;
+mod types;
+
+pub use error::{Error, Result};
+pub use fragment::{Fragmenter, SendOutput};
+pub use stack::{MctpMessage, ReceiveHandle, Stack};
+pub use types::{AppCookie, Eid, MsgIC, MsgType, Tag, TagValue};
+
+/// How long a whole message with no handle out is kept, in milliseconds.
+pub const DEFERRED_TIMEOUT: u32 = 6000;
+
+/// Timeouts are checked at most once in so many milliseconds. See [`Stack::update`].
+pub const TIMEOUT_INTERVAL: u32 = 100;
+
+/// A pool of just the size needed. The calls take any slice, as boards place their buffers in their own way.
+pub type Pool = [u8; config::POOL_BYTES];
+
+#[cfg(doctest)]
+#[doc = include_str!("../README.md")]
+mod readme {}

@@ -1,0 +1,73 @@
+//! The header in C and C++, and the same exchange in C and in Rust. Where no compiler is found, a test says so and passes.
+
+#[allow(dead_code)]
+#[path = "../examples/talk.rs"]
+mod talk;
+
+use std::path::{Path, PathBuf};
+use std::process::{Command, Output};
+
+/// Written by hand from DSP0236's header.
+const EXPECTED: &str = include_str!("c/talk.txt");
+
+const STRICT: [&str; 4] = ["-pedantic", "-Wall", "-Wextra", "-Werror"];
+
+fn root() -> PathBuf {
+    Path::new(env!("CARGO_MANIFEST_DIR")).join("..")
+}
+
+/// What the compiler says to these arguments, or nothing if it is not there.
+fn compile(compiler: &str, arguments: &[&str]) -> Option<Output> {
+    let include = format!("-I{}", root().join("include").display());
+    match Command::new(compiler).args(STRICT).arg(include).args(arguments).output() {
+        Ok(output) => Some(output),
+        Err(err) => {
+            eprintln!("passed over: {compiler}: {err}");
+            None
+        }
+    }
+}
+
+fn assert_well(output: &Output) {
+    let said = [&output.stdout[..], &output.stderr].concat();
+    assert!(output.status.success(), "{}", String::from_utf8_lossy(&said));
+}
+
+/// Compiles a C program, runs it and gives what it prints.
+fn run(source: &Path, name: &str) -> Option<String> {
+    let program = Path::new(env!("CARGO_TARGET_TMPDIR")).join(name);
+    let paths = [source, Path::new(env!("HYPHALOOM_ARCHIVE")), &program].map(|p| p.display().to_string());
+    assert_well(&compile("cc", &["-std=c99", &paths[0], &paths[1], "-o", &paths[2]])?);
+    let output = Command::new(&program).output().expect("it is compiled for this machine");
+    assert_well(&output);
+    Some(String::from_utf8(output.stdout).expect("text"))
+}
+
+#[test]
+fn talk_in_rust() {
+    assert_eq!(talk::exchange().as_deref(), Ok(EXPECTED));
+}
+
+#[test]
+fn talk_in_c() {
+    if let Some(said) = run(&root().join("examples/talk.c"), "talk") {
+        assert_eq!(said, EXPECTED);
+    }
+}
+
+#[test]
+fn edges_in_c() {
+    if let Some(said) = run(&Path::new(env!("CARGO_MANIFEST_DIR")).join("tests/c/edges.c"), "edges") {
+        assert_eq!(said, "");
+    }
+}
+
+#[test]
+fn the_header_stands_alone_in_c_and_in_cxx() {
+    let header = root().join("include/hyphaloom.h").display().to_string();
+    for (compiler, standard, language) in [("cc", "-std=c99", "c"), ("cc", "-std=c11", "c"), ("c++", "-std=c++11", "c++")] {
+        if let Some(output) = compile(compiler, &[standard, "-fsyntax-only", "-x", language, &header]) {
+            assert_well(&output);
+        }
+    }
+}
