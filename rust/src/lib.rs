@@ -83,3 +83,7 @@ pub type Pool = [u8; config::POOL_BYTES];
 #[cfg(doctest)]
 #[doc = include_str!("../README.md")]
 mod readme {}
+
+#[cfg(doctest)]
+#[doc = include_str!("../../README.md")]
+mod front_door {}

@@ -55,6 +55,19 @@ fn talk_in_c() {
     }
 }
 
+/// The README's lines in C.
+#[test]
+fn the_front_door_in_c() {
+    let readme = std::fs::read_to_string(root().join("README.md")).expect("a README");
+    let (_, after) = readme.split_once("```c\n").expect("a block in C");
+    let (block, _) = after.split_once("```").expect("the block's end");
+    let source = Path::new(env!("CARGO_TARGET_TMPDIR")).join("front_door.c");
+    std::fs::write(&source, block).expect("a place for it");
+    if let Some(said) = run(&source, "front_door") {
+        assert_eq!(said, "");
+    }
+}
+
 #[test]
 fn edges_in_c() {
     if let Some(said) = run(&Path::new(env!("CARGO_MANIFEST_DIR")).join("tests/c/edges.c"), "edges") {

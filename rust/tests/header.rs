@@ -21,7 +21,7 @@ fn calls() -> String {
 }
 
 fn words() -> String {
-    read("crates/board/src/words.rt")
+    read("crates/words/src/lib.rt")
 }
 
 /// What stands between two marks, the first after `from`.
@@ -160,7 +160,7 @@ fn constants(header: &str) -> BTreeMap<String, u64> {
 
 // ---- what the structs and constants must be
 
-/// The field that an entry of a row in words.rt is: `wide(f.src.0)` is `src`.
+/// The field that an entry of a row in crate `words` is: `wide(f.src.0)` is `src`.
 fn field_of(entry: &str) -> String {
     let known = ["wide", "flag_word", "0", "as", "u64", "f", "m", "h", "key", ""];
     let word = |c: char| !(c.is_alphanumeric() || c == '_');
@@ -172,7 +172,7 @@ fn field_of(entry: &str) -> String {
     }
 }
 
-/// The row that a function of words.rt ends with.
+/// The row that a function of crate `words` ends with.
 fn written_row(text: &str, function: &str) -> Vec<String> {
     let body = between(text, &format!("pub fn {function}("), "{\n", "\n}\n");
     let list = &body[body.rfind('[').expect("a row") + 1..body.rfind(']').expect("its end")];
@@ -201,7 +201,7 @@ fn read_row(text: &str) -> Vec<String> {
 
 /// How many numbers a row has by the sentence about it in Words.antt: `-- A handle: index, issue number.`
 fn told_length(name: &str) -> usize {
-    let specs = read("crates/board/specs/Words.antt");
+    let specs = read("crates/words/specs/Words.antt");
     let sentence = between(&specs, &format!("-- A {name}: "), ": ", ".");
     sentence.replace(" and ", ", ").split(", ").count()
 }
@@ -217,7 +217,7 @@ fn rows() -> Vec<(&'static str, Vec<String>)> {
         ("next", next),
     ];
     for (name, row) in &rows[..4] {
-        assert_eq!(row.len(), told_length(name), "words.rt and Words.antt on a {name}");
+        assert_eq!(row.len(), told_length(name), "code and definitions on a {name}");
     }
     rows
 }
@@ -287,8 +287,8 @@ fn wanted_constants() -> BTreeMap<String, u64> {
             ("EID_NULL", number(mctp, "NULL: Eid = Eid(")),
             ("EID_ANY", number(mctp, "ANY: Eid = Eid(")),
             ("OK", 0),
-            ("TAG_FRESH", number("crates/board/src/words.rt", "if kind == ")),
-            ("TAG_OWNED", number("crates/board/src/words.rt", "tag_from(kind == ")),
+            ("TAG_FRESH", number("crates/words/src/lib.rt", "if kind == ")),
+            ("TAG_OWNED", number("crates/words/src/lib.rt", "tag_from(kind == ")),
             ("TAG_UNOWNED", highest_kind()),
         ]
         .map(|(name, number)| (format!("HYPHALOOM_{name}"), number)),
@@ -305,7 +305,7 @@ fn header_differences(header: &str) -> Vec<String> {
     let wanted: Vec<_> = exported(&calls()).iter().map(|call| C.declaration(call)).collect();
     compare("call", &declared(header), &wanted, &mut differences);
     for (name, row) in rows() {
-        assert_eq!(row.len().to_string(), row_length(name), "words.rt and calls.rt on a {name}");
+        assert_eq!(row.len().to_string(), row_length(name), "rows and calls on a {name}");
         let wanted: Vec<_> = row.iter().map(|field| format!("uint64_t {field}")).collect();
         compare(&format!("struct hyphaloom_{name}, field"), &fields(header, name), &wanted, &mut differences);
     }

@@ -2,8 +2,8 @@
 use mathlib.Core.Path.{sym}
 use lib.Seq.{length-take-le}
 use borrow.Author.Needs.{needs}
-use Rattle.figures.proofs.taken.Statement.{statement}
-use Rattle.figures.proofs.taken.Tie as tie
+use Rattle.bay.proofs.taken.Statement.{statement}
+use Rattle.bay.proofs.taken.Tie as tie
 
 returns : tie.Need-returns
 returns c = search needs
@@ -23,9 +23,4 @@ returns-2 c = search needs
 pub taken-spec : {M : Type 1} → statement M
 taken-spec =
     tie.close
-    (tie.spec
-    returns
-    array-borrow-prefix-out
-    slice-aggregate-step
-    step-requires
-    returns-2)
+    (tie.spec returns array-borrow-prefix-out slice-aggregate-step step-requires returns-2)

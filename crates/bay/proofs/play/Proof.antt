@@ -4,14 +4,15 @@ use mathlib.Core.Path.{_≡_}
 use lib.ListN.{length}
 use borrow.Author.Needs.{needs}
 use Rattle.state.specs.Stack.{Kept}
-use Rattle.figures.proofs.play.Statement.{statement}
-use Rattle.figures.proofs.play.Tie as tie
+use Rattle.board.specs.Answers.{board}
+use Rattle.bay.proofs.play.Statement.{statement}
+use Rattle.bay.proofs.play.Tie as tie
 
 abbrev Inv-loop : tie.InvT-loop
-Inv-loop state₀ sizes pool₀ b row i₀ state pool i = Kept sizes state × (length state ≡ length state₀) × (length pool ≡ length pool₀)
+Inv-loop state₀ pool₀ b row i₀ state pool i = Kept board state × (length state ≡ length state₀) × (length pool ≡ length pool₀)
 
 abbrev μ-loop : tie.MeasureT-loop
-μ-loop state₀ sizes pool₀ b row i₀ state pool i = length row - i
+μ-loop state₀ pool₀ b row i₀ state pool i = length row - i
 
 loop-holds : tie.Need-loop-holds Inv-loop μ-loop
 loop-holds c = search needs

@@ -1,7 +1,7 @@
 -- `bytes` ends: each turn leaves one byte fewer, and it reads only where there is one.
 use borrow.Author.Needs.{needs}
-use Rattle.figures.proofs.bytes.Statement.{statement}
-use Rattle.figures.proofs.bytes.Tie as tie
+use Rattle.bay.proofs.bytes.Statement.{statement}
+use Rattle.bay.proofs.bytes.Tie as tie
 
 abbrev Inv-loop : tie.InvT-loop
 Inv-loop b at len i₀ left₀ i left = Unit

@@ -1,0 +1,10 @@
+-- Whether a figure's stack is made: `new` answers 0. Leans on `estack` for what `new` says.
+use Prim.Native.Nat.{ℕ}
+use mathlib.Core.Bool.{Bool}
+use lib.Dec.{eqb}
+use Rattle.estack.specs.Basics.{newSays}
+use Rattle.board.specs.Answers.{board, doneNo}
+
+-- in a buffer of that room, with that MTU
+abbrev pub made : ℕ → ℕ → Bool
+made room mtu = eqb (doneNo (newSays board room mtu)) 0

@@ -1,0 +1,2 @@
+-- The laws that programs over the exported calls cite.
+pub mod New
