@@ -1,4 +1,5 @@
--- Whether a figure's stack is made: `new` answers 0. Leans on `estack` for what `new` says.
+-- Whether a figure's stack is made: `new` answers 0.
+-- Leans on `estack` for what `new` says, on `board` for its number.
 use Prim.Native.Nat.{ℕ}
 use mathlib.Core.Bool.{Bool}
 use lib.Dec.{eqb}

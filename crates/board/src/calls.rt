@@ -244,6 +244,15 @@ pub extern "C" fn hyphaloom_get_deferred_bycookie(
     *handle = deferred_words(found);
 }
 
+fn handle_of(index: usize, issue: u64) -> ReceiveHandle
+    ensures { λ r. ⌜ r ≡ record { index = index; issue = issue } ⌝ }
+{
+    ReceiveHandle {
+        index: index,
+        issue: issue,
+    }
+}
+
 // The message under a handle: its body is `len` bytes of the pool from byte `at`.
 #[no_mangle]
 pub extern "C" fn hyphaloom_fetch_message(
@@ -257,10 +266,7 @@ pub extern "C" fn hyphaloom_fetch_message(
     ensures said { λ r. ⌜ r ≡ fetchedNo (fetchOf 1032 (record { index = index; issue = issue }) (stackOf board (now (state .entry))) (length (now (pool .entry)))) ⌝ }
     ensures message { λ _. ⌜ now (message .exit) ≡ messageAfter (fetchOf 1032 (record { index = index; issue = issue }) (stackOf board (now (state .entry))) (length (now (pool .entry)))) (now (message .entry)) ⌝ }
 {
-    let handle = ReceiveHandle {
-        index: index,
-        issue: issue,
-    };
+    let handle = handle_of(index, issue);
     match estack::fetch_message(state, Sizes::BOARD, pool, handle) {
         Fetched::Message(m) => {
             *message = message_words(m);
@@ -276,10 +282,7 @@ pub extern "C" fn hyphaloom_finished_receive(state: &mut [u8], index: usize, iss
     ensures said { λ r. ⌜ r ≡ doneNo (finishOf (record { index = index; issue = issue }) (stackOf board (now (state .entry))) .said) ⌝ }
     ensures stack { λ _. ⌜ Becomes board (now (state .entry)) (now (state .exit)) (finishOf (record { index = index; issue = issue }) (stackOf board (now (state .entry))) .stack) ⌝ }
 {
-    let handle = ReceiveHandle {
-        index: index,
-        issue: issue,
-    };
+    let handle = handle_of(index, issue);
     done_no(estack::finished_receive(state, Sizes::BOARD, handle))
 }
 
@@ -289,10 +292,7 @@ pub extern "C" fn hyphaloom_return_handle(state: &mut [u8], index: usize, issue:
     ensures said { λ r. ⌜ r ≡ doneNo (returnOf (record { index = index; issue = issue }) (stackOf board (now (state .entry))) .said) ⌝ }
     ensures stack { λ _. ⌜ Becomes board (now (state .entry)) (now (state .exit)) (returnOf (record { index = index; issue = issue }) (stackOf board (now (state .entry))) .stack) ⌝ }
 {
-    let handle = ReceiveHandle {
-        index: index,
-        issue: issue,
-    };
+    let handle = handle_of(index, issue);
     done_no(estack::return_handle(state, Sizes::BOARD, handle))
 }
 
@@ -308,10 +308,7 @@ pub extern "C" fn hyphaloom_set_cookie(
     ensures said { λ r. ⌜ r ≡ doneNo (cookieOf (record { index = index; issue = issue }) (cookieFrom (isYes «has_cookie») cookie) (stackOf board (now (state .entry))) .said) ⌝ }
     ensures stack { λ _. ⌜ Becomes board (now (state .entry)) (now (state .exit)) (cookieOf (record { index = index; issue = issue }) (cookieFrom (isYes «has_cookie») cookie) (stackOf board (now (state .entry))) .stack) ⌝ }
 {
-    let handle = ReceiveHandle {
-        index: index,
-        issue: issue,
-    };
+    let handle = handle_of(index, issue);
     let value = cookie_from(0 < has_cookie, cookie);
     done_no(estack::set_cookie(state, Sizes::BOARD, handle, value))
 }

@@ -17,29 +17,14 @@ use Rattle.flows.specs.declared.Granted.the-variants.{Tag as Grant, Refused as 
 use Rattle.flows.specs.Table.{Flowed, setFlow}
 use Rattle.fragment.specs.declared.Started.{Started}
 use Rattle.fragment.specs.declared.Started.the-variants.{Refused}
-use Rattle.state.specs.declared.Head.{Head}
 use Rattle.state.specs.declared.Sizes.{Sizes}
-use Rattle.state.specs.Head.{HeadOk}
 use Rattle.state.specs.Stack.{Stack, Becomes, stackOf}
 use Rattle.tables.specs.Walks.{tableOf, retable}
 use Rattle.estack.specs.declared.Send.{Send}
 use Rattle.estack.specs.declared.SendTag.{SendTag}
 use Rattle.estack.specs.declared.SendTag.the-variants.{Given}
-use Rattle.estack.specs.Sends.{unsent, badTag, resequenced, sendUnder, granted, ownedSend, givenSend, tagSend, startSendOf}
+use Rattle.estack.specs.Sends.{unsent, badTag, sendUnder, granted, ownedSend, givenSend, tagSend, startSendOf}
 use Rattle.estack.proofs.Steps.{Met, then-says}
-
-pub sequenced-ok : (h : Head) → HeadOk h → HeadOk (resequenced h)
-sequenced-ok h ok = record {
-  own = ok .own;
-  tag = ok .tag;
-  seq = omega arith;
-  counter = ok .counter;
-  clock = ok .clock;
-  planned = ok .planned;
-  issue = ok .issue;
-  mtu = ok .mtu;
-  soon = ok .soon;
-}
 
 -- type and tag are good: the tag decides
 pub start-as : (q : Send) (t : SendTag) (st : Stack) → q .typ .0 ≤ 127 → badTag t ≡ false → q .tag ≡ t → startSendOf q st ≡ tagSend q t st

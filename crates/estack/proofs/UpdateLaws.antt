@@ -12,13 +12,13 @@ use Rattle.flows.specs.Table.{fadedFlow}
 use Rattle.reassemble.specs.Slot.{fadedSlot}
 use Rattle.state.specs.declared.Head.{Head}
 use Rattle.state.specs.declared.Sizes.{Sizes}
-use Rattle.state.specs.Head.{renowed}
+use Rattle.state.specs.Head.{renowed, replanned}
 use Rattle.state.specs.Stack.{Stack, Becomes, stackOf, rehead}
 use Rattle.state.proofs.StackLaws.{andThen}
 use Rattle.tables.specs.declared.Check.{Check}
 use Rattle.tables.specs.Walks.{renow, reslots, reflows, checkOf, slotTimes, flowTimes}
 use Rattle.estack.specs.declared.Updated.the-variants.{Next}
-use Rattle.estack.specs.Update.{interval, leastOf, expires, plannedAt, replanned, checked}
+use Rattle.estack.specs.Update.{interval, leastOf, expires, plannedAt, checked}
 use Rattle.estack.proofs.Steps.{Met}
 use Rattle.estack.proofs.Times.{least-of}
 

@@ -21,6 +21,7 @@ use Rattle.reassemble.specs.Enter.{localPacket}
 use Rattle.state.specs.declared.Sizes.{Sizes}
 use Rattle.state.specs.declared.Head.{Head}
 use Rattle.state.specs.Layout.{flowCount, size}
+use Rattle.state.specs.Head.{reowned}
 use Rattle.state.specs.Stack.{Stack, Becomes, rehead}
 use Rattle.tables.specs.Walks.{reslots, reflows, swept, blocked}
 use Rattle.estack.specs.declared.Done.{Done}
@@ -57,17 +58,6 @@ newSays z room mtu =
 abbrev pub NewMakes : Done → Sizes → Eid → ℕ → ℕ → List ℕ → List ℕ → Type 0
 NewMakes Well z own mtu clock b b′ = Becomes z b b′ (freshStack z own mtu clock)
 NewMakes (Refused err) z own mtu clock b b′ = b′ ≡ b
-
-abbrev pub reowned : Eid → Head → Head
-reowned own h = record {
-  «own_eid» = own;
-  mtu = h .mtu;
-  now = h .now;
-  «next_timeout» = h .«next_timeout»;
-  «next_tag» = h .«next_tag»;
-  «next_seq» = h .«next_seq»;
-  issue = h .issue;
-}
 
 -- 8 to 254, else InvalidInput
 abbrev pub eidSet : EidRead → Stack → Outcome

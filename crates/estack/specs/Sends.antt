@@ -1,7 +1,7 @@
 -- Document 01, `start_send`: type above 127 or tag above 7 is InvalidInput with nothing changed; then, for an owned tag, the flow; then the sequence goes up
 -- modulo 4; then the smaller MTU, outside 5 to 255: BadArgument, with flow and sequence as they now are.
 -- Leans on `flows` for the table's part, on `fragment` for the fragmenter that comes out.
-use Prim.Native.Nat.{ℕ, _+_, _%_, min}
+use Prim.Native.Nat.{ℕ, min}
 use mathlib.Core.Bool.{Bool, true, false}
 use lib.Dec.{ltb}
 use Rattle.octets.specs.Pick.{pick}
@@ -18,7 +18,7 @@ use Rattle.flows.specs.Table.{setFlow}
 use Rattle.fragment.specs.declared.Started.{Started}
 use Rattle.fragment.specs.declared.Started.the-variants.{Refused}
 use Rattle.fragment.specs.Step.{newOf}
-use Rattle.state.specs.declared.Head.{Head}
+use Rattle.state.specs.Head.{resequenced}
 use Rattle.state.specs.Stack.{Stack, rehead}
 use Rattle.tables.specs.Walks.{tableOf, retable}
 use Rattle.estack.specs.declared.Send.{Send}
@@ -43,18 +43,6 @@ badTag (Given tag) = ltb 7 (tagOf tag .0)
 abbrev pub mtuOf : SendMtu → ℕ → ℕ
 mtuOf Own mtu = mtu
 mtuOf (AtMost n) mtu = min mtu n
-
--- the sequence goes up by 1 modulo 4
-abbrev pub resequenced : Head → Head
-resequenced h = record {
-  «own_eid» = h .«own_eid»;
-  mtu = h .mtu;
-  now = h .now;
-  «next_timeout» = h .«next_timeout»;
-  «next_tag» = h .«next_tag»;
-  «next_seq» = (h .«next_seq» % 4 + 1) % 4;
-  issue = h .issue;
-}
 
 -- a fragmenter under that tag, or BadArgument for the MTU; the sequence has gone up either way
 abbrev pub sendUnder : Send → Tag → Stack → Sent

@@ -10,7 +10,7 @@ use Rattle.mctp.specs.declared.Error.the-variants.{InvalidInput}
 use Rattle.stamp.specs.Stamp.{clocked}
 use Rattle.flows.specs.Table.{fadedFlow}
 use Rattle.reassemble.specs.Slot.{fadedSlot}
-use Rattle.state.specs.declared.Head.{Head}
+use Rattle.state.specs.Head.{replanned}
 use Rattle.state.specs.Stack.{Stack}
 use Rattle.tables.specs.Walks.{renow, leastLeft, anyExpired, slotTimes, flowTimes}
 use Rattle.estack.specs.declared.Updated.{Updated}
@@ -35,17 +35,6 @@ expires now st = anyExpired (flowTimes now st) (anyExpired (slotTimes now st) fa
 -- the planned check stops at 2^64 - 1
 abbrev pub plannedAt : ℕ → ℕ → ℕ
 plannedAt now least = min (now + least) 18446744073709551615
-
-abbrev pub replanned : ℕ → Head → Head
-replanned t h = record {
-  «own_eid» = h .«own_eid»;
-  mtu = h .mtu;
-  now = h .now;
-  «next_timeout» = t;
-  «next_tag» = h .«next_tag»;
-  «next_seq» = h .«next_seq»;
-  issue = h .issue;
-}
 
 -- the check itself, at the clock that was taken
 unfoldable pub checked : ℕ → Stack → Update

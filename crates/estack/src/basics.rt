@@ -2,8 +2,9 @@
 ghost use mathlib.Core.Path.{_≡_};
 ghost use Prim.Native.Nat.{_+_, _≤_, _<_};
 ghost use lib.ListN.{length};
+ghost use Rattle.state.specs.Head.{reowned};
 ghost use Rattle.state.specs.Stack.{Kept, Becomes, stackOf, rehead};
-ghost use Rattle.estack.specs.Basics.{freshStack, newSays, NewMakes, reowned, setEidOf, localOf, cancelOf, freeTagsOf};
+ghost use Rattle.estack.specs.Basics.{freshStack, newSays, NewMakes, setEidOf, localOf, cancelOf, freeTagsOf};
 use crate::Done;
 use mctp::Eid;
 use mctp::EidRead;
@@ -68,17 +69,7 @@ fn put_own(state: &mut [u8], sizes: Sizes, own: Eid)
     ensures { λ _. ⌜ Becomes sizes (now (state .entry)) (now (state .exit)) (rehead (reowned own (stackOf sizes (now (state .entry)) .head)) (stackOf sizes (now (state .entry)))) ⌝ }
 {
     let h = state::head_at(state, sizes);
-    let stamp = h.now;
-    let next = Head {
-        own_eid: own,
-        mtu: h.mtu,
-        now: stamp,
-        next_timeout: h.next_timeout,
-        next_tag: h.next_tag,
-        next_seq: h.next_seq,
-        issue: h.issue,
-    };
-    state::put_head(state, sizes, next);
+    state::put_head(state, sizes, h.with_own(own));
 }
 
 // The own EID.

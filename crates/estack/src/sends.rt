@@ -14,7 +14,6 @@ use fragment::Fragmenter;
 use fragment::Started;
 use mctp::Error;
 use mctp::Tag;
-use state::Head;
 use state::Sizes;
 
 fn smaller(a: usize, b: usize) -> usize
@@ -50,23 +49,21 @@ fn send_under(state: &mut [u8], sizes: Sizes, send: Send, tag: Tag) -> Started
     ensures { λ r. ⌜ (r ≡ sendUnder send tag (stackOf sizes (now (state .entry))) .said) × Becomes sizes (now (state .entry)) (now (state .exit)) (sendUnder send tag (stackOf sizes (now (state .entry))) .stack) ⌝ }
 {
     let h = state::head_at(state, sizes);
-    let seq = (h.next_seq % 4 + 1) % 4;
-    let own = h.own_eid;
-    let stamp = h.now;
-    let next = Head {
-        own_eid: own,
-        mtu: h.mtu,
-        now: stamp,
-        next_timeout: h.next_timeout,
-        next_tag: h.next_tag,
-        next_seq: seq,
-        issue: h.issue,
-    };
+    let next = h.with_next_seq();
     state::put_head(state, sizes, next);
     let m = send.mtu;
     let mtu = mtu_for(m, h.mtu);
     let cookie = send.cookie;
-    Fragmenter::new(send.typ, own, send.dest, tag, mtu, cookie, send.ic, seq)
+    Fragmenter::new(
+        send.typ,
+        h.own_eid,
+        send.dest,
+        tag,
+        mtu,
+        cookie,
+        send.ic,
+        next.next_seq,
+    )
 }
 
 // Under a tag of our own: the flow first.

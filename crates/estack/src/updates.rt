@@ -1,9 +1,9 @@
 // The clock and the timeouts.
 ghost use mathlib.Core.Path.{_≡_};
 ghost use Prim.Native.Nat.{_+_, _≤_, _<_, min};
-ghost use Rattle.state.specs.Head.{renowed};
+ghost use Rattle.state.specs.Head.{renowed, replanned};
 ghost use Rattle.state.specs.Stack.{Kept, Becomes, stackOf, rehead};
-ghost use Rattle.estack.specs.Update.{updateOf, checked, plannedAt, replanned};
+ghost use Rattle.estack.specs.Update.{updateOf, checked, plannedAt};
 use crate::Updated;
 use mctp::Error;
 use stamp::EventStamp;
@@ -27,17 +27,7 @@ fn put_clock(state: &mut [u8], sizes: Sizes, h: Head, stamp: EventStamp, next_ti
     requires { ⌜ Kept sizes (now state) × (h ≡ stackOf sizes (now state) .head) × («next_timeout» ≤ stamp .clock + 100) ⌝ }
     ensures { λ _. ⌜ Becomes sizes (now (state .entry)) (now (state .exit)) (rehead (replanned «next_timeout» (renowed stamp h)) (stackOf sizes (now (state .entry)))) ⌝ }
 {
-    let own = h.own_eid;
-    let next = Head {
-        own_eid: own,
-        mtu: h.mtu,
-        now: stamp,
-        next_timeout: next_timeout,
-        next_tag: h.next_tag,
-        next_seq: h.next_seq,
-        issue: h.issue,
-    };
-    state::put_head(state, sizes, next);
+    state::put_head(state, sizes, h.with_clock(stamp, next_timeout));
 }
 
 // The check itself: slots and flows expire, and the next check is planned.

@@ -10,10 +10,9 @@ use Rattle.octets.proofs.Number.{num-le, top}
 use Rattle.octets.proofs.Region.{Lawful}
 use Rattle.mctp.specs.declared.Eid.{Eid}
 use Rattle.mctp.specs.declared.TagValue.{TagValue}
-use Rattle.mctp.specs.declared.Cookie.{Cookie}
-use Rattle.mctp.specs.declared.Cookie.the-variants.{Absent, Given}
 use Rattle.mctp.specs.Header.{bit}
 use Rattle.mctp.specs.Terms.{cookieNo, cookieValue, cookieOf}
+use Rattle.mctp.proofs.CookieLaws.{cookie-back, cookie-small}
 use Rattle.flows.specs.declared.Expiry.{Expiry}
 use Rattle.flows.specs.declared.Expiry.the-variants.{Never, From}
 use Rattle.flows.specs.declared.Flow.{Flow}
@@ -30,15 +29,6 @@ expiry-back (From s) = refl
 expiry-small : (e : Expiry) → expiryNo e < 2
 expiry-small Never = omega arith
 expiry-small (From s) = omega arith
-
-cookie-back : (c : Cookie) → cookieOf (cookieNo c) (cookieValue c) ≡ c
-unfolding cookieOf pick
-cookie-back Absent = refl
-cookie-back (Given c) = refl
-
-cookie-small : (c : Cookie) → cookieNo c < 2
-cookie-small Absent = omega arith
-cookie-small (Given c) = omega arith
 
 bit-small : (b : Bool) → bit b 1 < 2
 bit-small true = omega arith

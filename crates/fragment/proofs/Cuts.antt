@@ -70,7 +70,7 @@ module _ (typ : MsgType) (src dest : Eid) (tag : Tag) (mtu : ℕ) (cookie : Cook
   pub new-is : newOf typ src dest tag mtu cookie ic seq ≡ Sends f → IsNew typ src dest tag mtu cookie ic seq f
   unfolding newOf
   new-is =
-      pick-cases P (λ _. never) (λ a. pick-cases P (λ _. never) (λ b. pick-cases P (λ _. never) (λ c. pick-cases P (λ _. never) (λ d e.
+      pick-cases P (λ _. never) (λ a. pick-cases P (λ _. never) (λ b. pick-cases P (λ _. never) (λ c. pick-cases P (λ _. never) (λ d. λ (e : Sends (fresh typ src dest tag mtu cookie ic seq) ≡ Sends f).
       record {
         same = cc;
         sound = record {
@@ -78,7 +78,7 @@ module _ (typ : MsgType) (src dest : Eid) (tag : Tag) (mtu : ℕ) (cookie : Cook
           tag = omega (arith, ltb-false 7 (tagOf tag .0) a);
           typ = omega (arith, ltb-false 127 (typ .0) b);
           least = ltb-false mtu 5 c;
-          most = ltb-false 255 mtu d;
+          most = ltb-false _ mtu d;
         };
       }))))
     where

@@ -2,3 +2,4 @@
 pub mod Wire
 pub mod RoundTrip
 pub mod Keys
+pub mod CookieLaws

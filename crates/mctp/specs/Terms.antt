@@ -47,6 +47,10 @@ abbrev pub isOwner : Tag → Bool
 isOwner (Owned t) = true
 isOwner (Unowned t) = false
 
+-- a tag with TO as it stands in a key
+unfoldable pub tagUnder : Bool → TagValue → Tag
+tagUnder owner tag = pick owner (Owned tag) (Unowned tag)
+
 abbrev pub sameTag : TagValue → TagValue → Bool
 sameTag a b = eqb (a .0) (b .0)
 

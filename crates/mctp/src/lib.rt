@@ -4,7 +4,7 @@ ghost use mathlib.Core.Path.{_≡_};
 ghost use Prim.Native.Nat.{_≤_, _<_};
 ghost use lib.ListN.{length};
 ghost use Rattle.octets.specs.Bytes.{over};
-ghost use Rattle.mctp.specs.Terms.{normalEid, errorNo, tagOf, isOwner, sameKey, sameBool, cookieNo, cookieValue, cookieOf};
+ghost use Rattle.mctp.specs.Terms.{normalEid, errorNo, tagOf, isOwner, tagUnder, sameKey, sameBool, cookieNo, cookieValue, cookieOf};
 ghost use Rattle.mctp.specs.Header.{headerOf, headerBytes, bit, typeByte, typeOf, lead, flagsOf};
 
 pub struct Eid(pub u8);
@@ -91,6 +91,15 @@ impl Eid {
 }
 
 impl Tag {
+    pub fn of(owner: bool, tag: TagValue) -> Tag
+        ensures { λ r. ⌜ r ≡ tagUnder owner tag ⌝ }
+    {
+        if owner {
+            return Tag::Owned(tag);
+        }
+        Tag::Unowned(tag)
+    }
+
     pub fn tag(self) -> TagValue
         ensures { λ r. ⌜ r ≡ tagOf self ⌝ }
     {

@@ -2,21 +2,13 @@
 -- Leans on `octets` for parts of a buffer, on `mctp` for tags and on `estack` for the facts. Where a body would go past the pool, it is
 -- what the pool holds of it: none from a byte past the end.
 use Prim.Native.Nat.{ℕ}
-use mathlib.Core.Bool.{Bool}
 use mathlib.Core.List.{List}
 use lib.ListN.{take}
 use denote.Ref.{RefT}
-use Rattle.octets.specs.Pick.{pick}
 use Rattle.octets.specs.Bytes.{part}
-use Rattle.mctp.specs.declared.TagValue.{TagValue}
-use Rattle.mctp.specs.declared.Tag.{Tag}
-use Rattle.mctp.specs.declared.Tag.the-variants.{Owned, Unowned}
+use Rattle.mctp.specs.Terms.{tagUnder}
 use Rattle.estack.specs.declared.Message.{Message}
 use Rattle.messages.specs.declared.MctpMessage.{MctpMessage}
-
--- a tag with TO as it stands in a key
-unfoldable pub tagUnder : Bool → TagValue → Tag
-tagUnder owner tag = pick owner (Owned tag) (Unowned tag)
 
 -- the message's bytes in the pool
 abbrev pub bodyOf : Message → List ℕ → List ℕ

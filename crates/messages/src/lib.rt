@@ -3,14 +3,13 @@
 ghost use mathlib.Core.Path.{_≡_};
 ghost use lib.ListN.{length};
 ghost use Rattle.octets.specs.Bytes.{over, part};
-ghost use Rattle.messages.specs.Message.{tagUnder, bodyOf, messageOf, frontOf};
+ghost use Rattle.messages.specs.Message.{bodyOf, messageOf, frontOf};
 use estack::Message;
 use mctp::Cookie;
 use mctp::Eid;
 use mctp::MsgIC;
 use mctp::MsgType;
 use mctp::Tag;
-use mctp::TagValue;
 
 pub struct MctpMessage<'a> {
     pub source: Eid,
@@ -20,15 +19,6 @@ pub struct MctpMessage<'a> {
     pub ic: MsgIC,
     pub cookie: Cookie,
     pub payload: &'a [u8],
-}
-
-fn tag_under(owner: bool, tag: TagValue) -> Tag
-    ensures { λ r. ⌜ r ≡ tagUnder owner tag ⌝ }
-{
-    if owner {
-        return Tag::Owned(tag);
-    }
-    Tag::Unowned(tag)
 }
 
 // `len` bytes from byte `at`, as far as there are any.
@@ -51,7 +41,7 @@ pub fn lend_message<'a>(pool: &'a [u8], facts: Message) -> MctpMessage<'a>
     ensures fields { λ m. ⌜ m ≡ messageOf facts (m .payload) ⌝ }
     ensures body { λ m. ⌜ now (m .payload) ≡ bodyOf facts (now (pool .entry)) ⌝ }
 {
-    let tag = tag_under(facts.key.owner, facts.key.tag);
+    let tag = Tag::of(facts.key.owner, facts.key.tag);
     let payload = stretch(pool, facts.at, facts.len);
     MctpMessage {
         source: facts.key.source,

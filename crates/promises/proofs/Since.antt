@@ -11,7 +11,7 @@ use Rattle.mctp.specs.Terms.{sameKey}
 use Rattle.fragment.specs.Cutting.{bodyIn}
 use Rattle.promises.specs.Delivery.{Message, allOf}
 use Rattle.promises.specs.History.{Taken, since, gathered, follows, numbered, Opens}
-use Rattle.promises.proofs.Facts.{no-true, and-left, and-right}
+use Rattle.promises.proofs.Facts.{no-true, and-left, and-right, and-both}
 
 module _ (K : Key) (t : Taken) (H : List Taken) where
   pub since-other : sameKey (t .header .key) K ≡ false → since K (t ∷ H) ≡ since K H
@@ -52,12 +52,11 @@ due-snoc (x ∷ l) t = after-snoc (x .header .seq) l t
 
 follows-snoc : (n : ℕ) (l : List Taken) (t : Taken) → follows n l ≡ true → t .header .som ≡ false → t .header .seq ≡ dueAfter n l → follows n (l ++ (t ∷ [])) ≡ true
 unfolding follows
-follows-snoc n [] t f s e = rw (s, eq-eqb (t .header .seq) ((n + 1) % 4) e)
+follows-snoc n [] t f s e = and-both (not (t .header .som)) _ (ap not s) (and-both (eqb (t .header .seq) _) true (eq-eqb (t .header .seq) _ e) refl)
 follows-snoc n (x ∷ l) t f s e =
-    let rest = eqb (x .header .seq) ((n + 1) % 4) && follows (x .header .seq) l in
-    let g : rest ≡ true = and-right (not (x .header .som)) rest f in
-    rw (and-left (not (x .header .som)) rest f, and-left (eqb (x .header .seq) ((n + 1) % 4)) (follows (x .header .seq) l) g)
-    (follows-snoc (x .header .seq) l t (and-right (eqb (x .header .seq) ((n + 1) % 4)) (follows (x .header .seq) l) g) s e)
+    let rest = follows (x .header .seq) l in
+    let g = and-right (not (x .header .som)) _ f in
+    and-both (not (x .header .som)) _ (and-left (not (x .header .som)) _ f) (and-both (eqb (x .header .seq) _) (follows (x .header .seq) (l ++ (t ∷ []))) (and-left (eqb (x .header .seq) _) rest g) (follows-snoc (x .header .seq) l t (and-right (eqb (x .header .seq) _) rest g) s e))
 
 pub numbered-snoc : (l : List Taken) (t : Taken) → numbered l ≡ true → t .header .som ≡ false → t .header .seq ≡ due l → numbered (l ++ (t ∷ [])) ≡ true
 unfolding numbered

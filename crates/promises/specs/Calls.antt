@@ -1,5 +1,5 @@
 -- Every public call with all its arguments, what it makes of a stack and of the pool that we watch, and what it answers: through the definitions that the
--- contracts of `estack` cite, and nothing else. B is the most that a body holds.
+-- contracts of `estack` cite, and nothing else: it leans on those. B is the most that a body holds.
 -- A receive comes in two kinds: lent the watched pool, or lent any other buffer. No other call writes a pool.
 use Prim.Native.Nat.{ℕ, _+_, _≤_}
 use mathlib.Core.Bool.{Bool, true, false, not, _&&_}

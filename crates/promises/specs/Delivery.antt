@@ -1,5 +1,6 @@
 -- What it is that a message is delivered: its packets come in order, with calls between, none before the last hands anything out, and the last hands out
 -- exactly that message. And what demand 3 asks of the state at the first fragment.
+-- Leans on `Calls`, and on `fragment` for what DSP0236 calls a message in packets.
 use Prim.Native.Nat.{ℕ, _+_, _*_, _≤_}
 use mathlib.Core.Path.{_≡_}
 use mathlib.Core.Bool.{Bool, true, false, not, _&&_, _||_}

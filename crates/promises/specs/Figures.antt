@@ -1,5 +1,6 @@
 -- The starred figures of document 01 as one table: what the definitions give for each, and what the document says.
 -- A fresh stack of 4 slots of 1,032 bytes, own EID 8, clock 0; the pool is 4,128 zero bytes.
+-- Leans on `Calls` and the definitions of `estack` and `fragment`.
 use Prim.Native.Nat.{ℕ}
 use mathlib.Core.Path.{_≡_}
 use mathlib.Core.Bool.{Bool, true, false}

@@ -1,5 +1,6 @@
 // Theorems only: what the customer buys, stated over the definitions that every call's contract cites.
 // The statements: specs/ says what a call, a delivery and a history are; proofs/ has the theorems, by name in docs/PROMISES.md.
+// Leans on `estack`, `receiving`, `fragment` and what they cite; no code leans on it.
 ghost use mathlib.Core.Path.{_≡_};
 
 // The demands that the theorems of this crate answer.

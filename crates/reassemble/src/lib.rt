@@ -236,14 +236,13 @@ impl Reassembler {
         }
     }
 
-    // The record in another state.
-    fn with_state(self, state: State) -> Reassembler
-        ensures { λ r. ⌜ r ≡ restated state self ⌝ }
+    // The record in another state, under another cookie.
+    fn with(self, state: State, cookie: Cookie) -> Reassembler
+        ensures { λ r. ⌜ r ≡ restated state (recookied cookie self) ⌝ }
     {
         let key = self.key;
         let typ = self.typ;
         let ic = self.ic;
-        let cookie = self.cookie;
         let stamp = self.stamp;
         Reassembler {
             state: state,
@@ -260,33 +259,22 @@ impl Reassembler {
     pub fn take_handle(self, issue: u64) -> Reassembler
         ensures { λ r. ⌜ r ≡ restated (State.HandleOut issue) self ⌝ }
     {
-        self.with_state(State::HandleOut(issue))
+        let cookie = self.cookie;
+        self.with(State::HandleOut(issue), cookie)
     }
 
     pub fn return_handle(self) -> Reassembler
         ensures { λ r. ⌜ r ≡ restated State.Done self ⌝ }
     {
-        self.with_state(State::Done)
+        let cookie = self.cookie;
+        self.with(State::Done, cookie)
     }
 
     pub fn set_cookie(self, cookie: Cookie) -> Reassembler
         ensures { λ r. ⌜ r ≡ recookied cookie self ⌝ }
     {
         let state = self.state;
-        let key = self.key;
-        let typ = self.typ;
-        let ic = self.ic;
-        let stamp = self.stamp;
-        Reassembler {
-            state: state,
-            key: key,
-            typ: typ,
-            ic: ic,
-            next_seq: self.next_seq,
-            len: self.len,
-            cookie: cookie,
-            stamp: stamp,
-        }
+        self.with(state, cookie)
     }
 
     // What is left of the slot's time: none runs for an empty slot or one with a handle out.

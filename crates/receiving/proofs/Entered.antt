@@ -31,13 +31,11 @@ use Rattle.reassemble.specs.declared.Gate.{Gate}
 use Rattle.reassemble.specs.declared.Gate.the-variants.{Shut, Pass}
 use Rattle.reassemble.specs.Enter.{enter, append, appended, begun, opened, gateEmpty, gateReply}
 use Rattle.state.specs.declared.Sizes.{Sizes}
-use Rattle.receiving.proofs.SizeLaws.{pool-fits}
 use Rattle.state.specs.Slot.{SlotOk, issueNo}
-use Rattle.state.specs.Layout.{SizesOk}
 use Rattle.state.specs.Stack.{Stack, Kept, Becomes, stackOf}
 use Rattle.state.proofs.StackLaws.{flows-length, flow-ok, head-ok}
 use Rattle.tables.specs.Walks.{ticked}
-use Rattle.tables.proofs.SlotLoops.{blank-ok}
+use Rattle.tables.proofs.SlotChecks.{blank-ok}
 use Rattle.receiving.specs.Receive.{nextIssue}
 
 -- bytes that fit slot i's body fit the pool
@@ -63,10 +61,6 @@ module _ (at from : ℕ) (packet pool : List ℕ) (fits : at + (length packet - 
   pub copied : (e : List ℕ) → e ≡ lent ++ drop (length lent) (take (length pool - at) (drop at pool))
       → take at pool ++ (e ++ drop (length pool - at) (drop at pool)) ≡ over at (drop from packet) pool
   copied e h = let l = length-drop from packet in lent-front at (drop from packet) pool (omega arith) (rw rest at h)
-
--- a pool's least length is a number of the machine
-pub sizes-fit : (z : Sizes) → SizesOk z → z .body * z .slots < 2 ^ 64
-sizes-fit z ok = pool-fits z ok (z .slots) (omega arith)
 
 -- the ranges of a stamp
 pub record StampOk (t : EventStamp) : Type 0 where

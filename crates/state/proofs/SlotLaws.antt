@@ -11,12 +11,11 @@ use Rattle.octets.specs.Bytes.{le, num, part, field, pack, puts, over}
 use Rattle.octets.specs.Pick.{pick}
 use Rattle.octets.proofs.Number.{num-le, top, puts-whole}
 use Rattle.octets.proofs.Region.{Lawful}
-use Rattle.mctp.specs.declared.Cookie.{Cookie}
-use Rattle.mctp.specs.declared.Cookie.the-variants.{Absent, Given}
 use Rattle.mctp.specs.declared.TypeIC.{TypeIC}
 use Rattle.mctp.specs.Terms.{cookieNo, cookieValue, cookieOf}
 use Rattle.mctp.specs.Header.{bit, typeByte, typeOf}
 use Rattle.mctp.proofs.RoundTrip.{type-back}
+use Rattle.mctp.proofs.CookieLaws.{cookie-back, cookie-small}
 use Rattle.reassemble.specs.declared.State.{State}
 use Rattle.reassemble.specs.declared.State.the-variants.{Empty, Collecting, Done, HandleOut}
 use Rattle.reassemble.specs.declared.Reassembler.{Reassembler}
@@ -35,15 +34,6 @@ state-small Empty = omega arith
 state-small Collecting = omega arith
 state-small Done = omega arith
 state-small (HandleOut n) = omega arith
-
-cookie-back : (c : Cookie) → cookieOf (cookieNo c) (cookieValue c) ≡ c
-unfolding cookieOf pick
-cookie-back Absent = refl
-cookie-back (Given n) = refl
-
-cookie-small : (c : Cookie) → cookieNo c < 2
-cookie-small Absent = omega arith
-cookie-small (Given n) = omega arith
 
 pub bit-small : (b : Bool) (n : ℕ) → bit b n ≤ n
 bit-small true n = omega arith

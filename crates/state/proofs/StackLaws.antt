@@ -1,5 +1,5 @@
 -- What a store of one head, flow or slot makes of the stack: its own place changes, and every other keeps its bytes.
-use Prim.Native.Nat.{ℕ, _+_, _*_, _≤_, _<_}
+use Prim.Native.Nat.{ℕ, _+_, _-_, _*_, _≤_, _<_}
 use native.Mathlib.Nat.{add-zero, zero-add}
 use native.Mathlib.Omega.{arith}
 use mathlib.Core.Path.{_≡_, refl, sym, ap, _∙_}
@@ -7,8 +7,8 @@ use mathlib.Core.List.{List, [], _∷_, _++_}
 use lib.ListN.{length, getD, set, drop, take, take-append-drop}
 use Rattle.octets.specs.Bytes.{num, part, over, field}
 use Rattle.octets.specs.Region.{Codec, place, region, Regular, bytes}
-use Rattle.octets.proofs.Part.{part-same, part-below, part-add, part-part, length-over, drop-over}
-use Rattle.octets.proofs.Region.{place-is, region-length, region-get, regular-get, holds-as, holds-put, region-after, regular-after, region-before, regular-before, region-put, regular-put, regular-bytes}
+use Rattle.octets.proofs.Part.{part-same, part-below, part-add, part-part, length-over, drop-over, lent, lent-back}
+use Rattle.octets.proofs.Region.{Lawful, place-is, region-length, region-get, regular-get, holds-as, holds-put, region-after, regular-after, region-before, regular-before, region-put, regular-put, regular-bytes}
 use Rattle.flows.specs.declared.Flow.{Flow}
 use Rattle.flows.specs.Codec.{flowWidth, flowCodec, flowBytes, flowOf, FlowOk}
 use Rattle.flows.specs.Table.{noFlow}
@@ -30,6 +30,13 @@ flowPlace i = flowsAt + flowWidth * i
 
 abbrev pub slotPlace : ℕ → ℕ
 slotPlace i = slotsAt + slotWidth * i
+
+-- a block of w bytes as it is lent, `b[at..at + w]`, and the whole once it comes back as s
+abbrev pub lentAs : ℕ → ℕ → List ℕ → List ℕ
+lentAs at w b = take ((at + w) - at) (drop at b)
+
+abbrev pub backAs : ℕ → ℕ → List ℕ → List ℕ → List ℕ
+backAs at w s b = take at b ++ (s ++ drop ((at + w) - at) (drop at b))
 
 module _ (z : Sizes) (b : List ℕ) where
   pub slots-length : length (stackOf z b .slots) ≡ z .slots
@@ -87,8 +94,22 @@ module _ {A : Type 0} (C : Codec A) (n at : ℕ) (b : List ℕ) (d : A) (i : ℕ
     block-first : (w : ℕ) → w ≤ C .width → field (at + C .width * i) w b ≡ field 0 w (C .enc (getD (region C n at b) i d))
     block-first w l = rw add-zero at (block-field 0 w (omega arith))
 
+    -- read as r, where it is lent
+    block-read : (r : A) → r ≡ C .dec (lentAs (at + C .width * i) (C .width) b) → (r ≡ getD (region C n at b) i d) × C .Ok r
+    block-read r e =
+        let q : r ≡ getD (region C n at b) i d = e ∙ rw (lent (at + C .width * i) (C .width) b) (sym block-get) in
+        (q, rw q block-ok)
+
+-- the block at `at` is x's bytes; lent, it comes back as f makes it, and those are y's bytes
+block-back : {A : Type 0} (C : Codec A) → Lawful C → (at : ℕ) (b : List ℕ) (x y : A) (f : List ℕ → List ℕ) (s : List ℕ) → at + C .width ≤ length b
+    → part at (C .width) b ≡ C .enc x → f (C .enc x) ≡ C .enc y → s ≡ f (lentAs at (C .width) b)
+    → backAs at (C .width) s b ≡ over at (C .enc y) b
+block-back C L at b x y f s l p q e =
+    let g : s ≡ C .enc y = e ∙ ap f (lent at (C .width) b ∙ p) ∙ q in
+    rw g (lent-back at (C .width) (C .enc y) b (L .long y) l)
+
 module _ (z : Sizes) (b : List ℕ) (k : Kept z b) where
-  pub head-put : (h : Head) → HeadOk h → Becomes z b (over 0 (headBytes h) b) (rehead h (stackOf z b))
+  head-put : (h : Head) → HeadOk h → Becomes z b (over 0 (headBytes h) b) (rehead h (stackOf z b))
   unfolding stackOf
   head-put h ok =
       let n = k .long in
@@ -132,7 +153,7 @@ module _ (z : Sizes) (b : List ℕ) (k : Kept z b) where
           rest = drop-over (size z) at s b in-state (omega arith);
         }
 
-  pub flow-put : (i : ℕ) (f : Flow) → i < flowCount → FlowOk f → Becomes z b (over (flowPlace i) (flowBytes f) b) (reflow i f (stackOf z b))
+  flow-put : (i : ℕ) (f : Flow) → i < flowCount → FlowOk f → Becomes z b (over (flowPlace i) (flowBytes f) b) (reflow i f (stackOf z b))
   unfolding stackOf
   flow-put i f h ok =
       let n = k .long in
@@ -146,7 +167,7 @@ module _ (z : Sizes) (b : List ℕ) (k : Kept z b) where
       (rw (← p) (regular-put flowCodec flow-lawful f ok b flowCount flowsAt i h (omega arith) (k .flows)))
       (regular-after C (z .slots) slotsAt (flowPlace i) (flowBytes f) b (omega arith) (omega arith) (k .slots))
 
-  pub slot-put : (i : ℕ) (s : Reassembler) → i < z .slots → SlotOk (z .body) s → Becomes z b (over (slotPlace i) (slotBytes s) b) (reslot i s (stackOf z b))
+  slot-put : (i : ℕ) (s : Reassembler) → i < z .slots → SlotOk (z .body) s → Becomes z b (over (slotPlace i) (slotBytes s) b) (reslot i s (stackOf z b))
   unfolding stackOf
   slot-put i s h ok =
       let n = k .long in
@@ -164,11 +185,11 @@ module _ (z : Sizes) (b : List ℕ) (k : Kept z b) where
 
   -- what a read of a block is
   module _ (i : ℕ) (h : i < z .slots) where
-    pub slot-get : slotAt i (stackOf z b) ≡ slotOf (part (slotPlace i) slotWidth b)
+    pub slot-read : (r : Reassembler) → r ≡ slotOf (lentAs (slotPlace i) slotWidth b) → (r ≡ slotAt i (stackOf z b)) × SlotOk (z .body) r
     unfolding stackOf
-    slot-get = block-get (slotCodec (z .body)) (z .slots) slotsAt b blankSlot i h
+    slot-read = block-read (slotCodec (z .body)) (z .slots) slotsAt b blankSlot i h (k .slots)
 
-    pub slot-same : part (slotPlace i) slotWidth b ≡ slotBytes (slotAt i (stackOf z b))
+    slot-same : part (slotPlace i) slotWidth b ≡ slotBytes (slotAt i (stackOf z b))
     unfolding stackOf
     slot-same = block-same (slotCodec (z .body)) (z .slots) slotsAt b blankSlot i h (k .slots)
 
@@ -185,11 +206,11 @@ module _ (z : Sizes) (b : List ℕ) (k : Kept z b) where
     slot-field = block-field (slotCodec (z .body)) (z .slots) slotsAt b blankSlot i h (k .slots)
 
   module _ (i : ℕ) (h : i < flowCount) where
-    pub flow-get : flowAt i (stackOf z b) ≡ flowOf (part (flowPlace i) flowWidth b)
+    pub flow-read : (r : Flow) → r ≡ flowOf (lentAs (flowPlace i) flowWidth b) → (r ≡ flowAt i (stackOf z b)) × FlowOk r
     unfolding stackOf
-    flow-get = block-get flowCodec flowCount flowsAt b noFlow i h
+    flow-read = block-read flowCodec flowCount flowsAt b noFlow i h (k .flows)
 
-    pub flow-same : part (flowPlace i) flowWidth b ≡ flowBytes (flowAt i (stackOf z b))
+    flow-same : part (flowPlace i) flowWidth b ≡ flowBytes (flowAt i (stackOf z b))
     unfolding stackOf
     flow-same = block-same flowCodec flowCount flowsAt b noFlow i h (k .flows)
 
@@ -201,13 +222,35 @@ module _ (z : Sizes) (b : List ℕ) (k : Kept z b) where
     unfolding stackOf
     flow-first = block-first flowCodec flowCount flowsAt b noFlow i h (k .flows)
 
-  pub head-same : part 0 headWidth b ≡ headBytes (stackOf z b .head)
+  head-same : part 0 headWidth b ≡ headBytes (stackOf z b .head)
   unfolding stackOf
   head-same = k .head .same
 
   pub head-ok : HeadOk (stackOf z b .head)
   unfolding stackOf
   head-ok = k .head .ok
+
+  -- a block, lent and stored to as f says, comes back as the bytes of another element
+  module _ (f : List ℕ → List ℕ) (s : List ℕ) where
+    pub head-store : (h : Head) → f (headBytes (stackOf z b .head)) ≡ headBytes h → HeadOk h → s ≡ f (lentAs 0 headWidth b)
+        → Becomes z b (backAs 0 headWidth s b) (rehead h (stackOf z b))
+    head-store h q ok e =
+        let l = k .long in
+        rw (block-back headCodec head-lawful 0 b (stackOf z b .head) h f s (omega arith) head-same q e) (head-put h ok)
+
+    pub flow-store : (i : ℕ) (x : Flow) (h : i < flowCount) → f (flowBytes (flowAt i (stackOf z b))) ≡ flowBytes x → FlowOk x
+        → s ≡ f (lentAs (flowPlace i) flowWidth b)
+        → Becomes z b (backAs (flowPlace i) flowWidth s b) (reflow i x (stackOf z b))
+    flow-store i x h q ok e =
+        let l = k .long in
+        rw (block-back flowCodec flow-lawful (flowPlace i) b (flowAt i (stackOf z b)) x f s (omega arith) (flow-same i h) q e) (flow-put i x h ok)
+
+    pub slot-store : (i : ℕ) (x : Reassembler) (h : i < z .slots) → f (slotBytes (slotAt i (stackOf z b))) ≡ slotBytes x → SlotOk (z .body) x
+        → s ≡ f (lentAs (slotPlace i) slotWidth b)
+        → Becomes z b (backAs (slotPlace i) slotWidth s b) (reslot i x (stackOf z b))
+    slot-store i x h q ok e =
+        let l = k .long in
+        rw (block-back (slotCodec (z .body)) (slot-lawful (z .body)) (slotPlace i) b (slotAt i (stackOf z b)) x f s (omega arith) (slot-same i h) q e) (slot-put i x h ok)
 
   -- the stack gives the bytes
   encoded : encode (stackOf z b) ≡ take (size z) b

@@ -1,8 +1,10 @@
 -- What the stack has once, in 40 bytes.
-use Prim.Native.Nat.{ℕ, _+_, _^_, _<_, _≤_}
+-- Each update changes the fields that it names (`headWith`). Leans on `octets` for numbers in bytes, on `stamp` for the clock.
+use Prim.Native.Nat.{ℕ, _+_, _%_, _^_, _<_, _≤_}
 use mathlib.Core.List.{List, [], _∷_}
 use Rattle.octets.specs.Bytes.{field, pack}
 use Rattle.octets.specs.Region.{Codec}
+use Rattle.mctp.specs.declared.Eid.{Eid}
 use Rattle.stamp.specs.declared.EventStamp.{EventStamp}
 use Rattle.state.specs.Layout.{headWidth}
 use Rattle.state.specs.declared.Head.{Head}
@@ -40,28 +42,29 @@ pub record HeadOk (h : Head) : Type 0 where
 abbrev pub headCodec : Codec Head
 headCodec = record { width = headWidth; enc = headBytes; dec = headOf; Ok = HeadOk }
 
+-- the head with all but its MTU anew
+abbrev pub headWith : Eid → EventStamp → ℕ → ℕ → ℕ → ℕ → Head → Head
+headWith own now planned tag seq issue h = record { «own_eid» = own; mtu = h .mtu; now = now; «next_timeout» = planned; «next_tag» = tag; «next_seq» = seq; issue = issue }
+
 -- the head with one part anew
+abbrev pub reowned : Eid → Head → Head
+reowned own h = headWith own (h .now) (h .«next_timeout») (h .«next_tag») (h .«next_seq») (h .issue) h
+
 abbrev pub renowed : EventStamp → Head → Head
-renowed now h = record {
-  «own_eid» = h .«own_eid»;
-  mtu = h .mtu;
-  now = now;
-  «next_timeout» = h .«next_timeout»;
-  «next_tag» = h .«next_tag»;
-  «next_seq» = h .«next_seq»;
-  issue = h .issue;
-}
+renowed now h = headWith (h .«own_eid») now (h .«next_timeout») (h .«next_tag») (h .«next_seq») (h .issue) h
 
 abbrev pub recounted : ℕ → Head → Head
 recounted n h = renowed (record { clock = h .now .clock; counter = n }) h
 
+abbrev pub replanned : ℕ → Head → Head
+replanned t h = headWith (h .«own_eid») (h .now) t (h .«next_tag») (h .«next_seq») (h .issue) h
+
+abbrev pub retagged : ℕ → Head → Head
+retagged n h = headWith (h .«own_eid») (h .now) (h .«next_timeout») n (h .«next_seq») (h .issue) h
+
+-- the sequence goes up by 1 modulo 4
+abbrev pub resequenced : Head → Head
+resequenced h = headWith (h .«own_eid») (h .now) (h .«next_timeout») (h .«next_tag») ((h .«next_seq» % 4 + 1) % 4) (h .issue) h
+
 abbrev pub reissued : ℕ → Head → Head
-reissued n h = record {
-  «own_eid» = h .«own_eid»;
-  mtu = h .mtu;
-  now = h .now;
-  «next_timeout» = h .«next_timeout»;
-  «next_tag» = h .«next_tag»;
-  «next_seq» = h .«next_seq»;
-  issue = n;
-}
+reissued n h = headWith (h .«own_eid») (h .now) (h .«next_timeout») (h .«next_tag») (h .«next_seq») n h

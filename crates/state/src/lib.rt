@@ -3,12 +3,12 @@
 // Leans on `octets` for numbers in bytes and blocks, on `flows` and `reassemble` for the records. Definitions: specs/Layout.antt, Head.antt, Slot.antt, Stack.antt.
 ghost use mathlib.Core.Path.{_≡_};
 ghost use mathlib.Core.List.{_∷_, [], _++_};
-ghost use Prim.Native.Nat.{_≤_, _<_, _^_};
+ghost use Prim.Native.Nat.{_+_, _≤_, _<_, _^_};
 ghost use lib.ListN.{length, replicate, drop};
 ghost use Rattle.octets.specs.Bytes.{puts};
 ghost use Rattle.flows.specs.Codec.{FlowOk, flowWord};
 ghost use Rattle.state.specs.Layout.{headWidth, slotWidth, flowCount};
-ghost use Rattle.state.specs.Head.{headOf, headBytes, HeadOk, recounted, reissued};
+ghost use Rattle.state.specs.Head.{headOf, headBytes, HeadOk, headWith, reowned, renowed, recounted, replanned, retagged, resequenced, reissued};
 ghost use Rattle.state.specs.Slot.{stateNo, issueNo, stateFrom, ownerTag, slotOf, slotBytes, leadRow, restRow, progressRow, SlotOk, progress, progressOf, keyWord};
 ghost use Rattle.state.specs.Stack.{Kept, Becomes, stackOf, slotAt, flowAt, reslot, reflow, rehead};
 use flows::Flow;
@@ -63,6 +63,60 @@ pub struct Head {
     pub next_tag: u8,
     pub next_seq: u8,
     pub issue: u64,
+}
+
+impl Head {
+    fn with(self, own: Eid, stamp: EventStamp, planned: u64, tag: u8, seq: u8) -> Head
+        requires { ⌜ HeadOk self × (planned ≤ stamp .clock + 100) × (tag < 8) × (seq < 4) ⌝ }
+        ensures { λ r. ⌜ (r ≡ headWith own stamp planned tag seq (self .issue) self) × HeadOk r ⌝ }
+    {
+        Head {
+            own_eid: own,
+            mtu: self.mtu,
+            now: stamp,
+            next_timeout: planned,
+            next_tag: tag,
+            next_seq: seq,
+            issue: self.issue,
+        }
+    }
+
+    pub fn with_own(self, own: Eid) -> Head
+        requires { ⌜ HeadOk self ⌝ }
+        ensures { λ r. ⌜ (r ≡ reowned own self) × HeadOk r ⌝ }
+    {
+        let stamp = self.now;
+        self.with(own, stamp, self.next_timeout, self.next_tag, self.next_seq)
+    }
+
+    // Another stamp of the last event, and another planned check.
+    pub fn with_clock(self, stamp: EventStamp, planned: u64) -> Head
+        requires { ⌜ HeadOk self × (planned ≤ stamp .clock + 100) ⌝ }
+        ensures { λ r. ⌜ (r ≡ replanned planned (renowed stamp self)) × HeadOk r ⌝ }
+    {
+        let own = self.own_eid;
+        self.with(own, stamp, planned, self.next_tag, self.next_seq)
+    }
+
+    pub fn with_tag(self, tag: u8) -> Head
+        requires { ⌜ HeadOk self × (tag < 8) ⌝ }
+        ensures { λ r. ⌜ (r ≡ retagged tag self) × HeadOk r ⌝ }
+    {
+        let own = self.own_eid;
+        let stamp = self.now;
+        self.with(own, stamp, self.next_timeout, tag, self.next_seq)
+    }
+
+    // The sequence goes up by 1 modulo 4.
+    pub fn with_next_seq(self) -> Head
+        requires { ⌜ HeadOk self ⌝ }
+        ensures { λ r. ⌜ (r ≡ resequenced self) × HeadOk r ⌝ }
+    {
+        let own = self.own_eid;
+        let stamp = self.now;
+        let seq = (self.next_seq % 4 + 1) % 4;
+        self.with(own, stamp, self.next_timeout, self.next_tag, seq)
+    }
 }
 
 // ---- a head in 40 bytes

@@ -1,5 +1,5 @@
--- The laws that the walks over slots share.
-pub mod SlotLoops
+-- The laws that the walks over slots and flows share.
+pub mod PartLoops
 pub mod SlotSearch
 pub mod SlotChecks
 pub mod FlowLaws

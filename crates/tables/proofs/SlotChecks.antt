@@ -1,48 +1,39 @@
--- A check of time, and a cancel's walk, one slot at a time: what slot i makes, and what is then left.
+-- A slot of a check of time, and of a cancel's walk: what slot i makes, and what is then left.
 use Prim.Native.Nat.{ℕ}
-use mathlib.Core.Path.{_≡_, sym, ap, _∙_}
+use native.Mathlib.Omega.{arith}
+use mathlib.Core.Path.{_≡_, refl, sym, _∙_}
 use mathlib.Core.Bool.{true, false}
-use mathlib.Core.List.{List, [], _∷_, map}
+use mathlib.Core.List.{List, [], _∷_}
 use lib.ListN.{getD}
-use Rattle.octets.specs.Pick.{pick, pick-true, pick-false}
+use Rattle.octets.specs.Pick.{pick}
 use Rattle.octets.proofs.Bools.{false-true, bool-cases}
 use Rattle.mctp.specs.declared.Eid.{Eid}
 use Rattle.mctp.specs.declared.TagValue.{TagValue}
-use Rattle.stamp.specs.declared.Timeout.{Timeout}
-use Rattle.stamp.specs.Stamp.{isExpired, soonerOf}
+use Rattle.stamp.specs.Stamp.{isExpired}
 use Rattle.reassemble.specs.declared.Reassembler.{Reassembler}
 use Rattle.reassemble.specs.Slot.{blankSlot, isReply, handleTaken, slotTimeout, fadedSlot}
-use Rattle.tables.specs.declared.Check.{Check}
-use Rattle.tables.specs.Walks.{leastLeft, anyExpired, checkOf, swept, blocked}
+use Rattle.state.specs.Slot.{SlotOk}
+use Rattle.tables.specs.Walks.{swept, blocked}
 
--- one time that is expired, or not
-module _ (t : Timeout) (n : ℕ) (c : Check) (e : n ≡ soonerOf t (c .least)) where
-  pub check-hit : isExpired t ≡ true → _≡_ {A = Check} (record { least = n; expired = true }) (checkOf (t ∷ []) c)
-  unfolding leastLeft anyExpired
-  check-hit h = let g = sym (pick-true (isExpired t) true (c .expired) h) in λ i. record { least = e i; expired = g i }
+pub blank-ok : (B : ℕ) → SlotOk B blankSlot
+blank-ok B = record {
+  dest = omega arith;
+  source = omega arith;
+  tag = omega arith;
+  typ = omega arith;
+  seq = omega arith;
+  len = omega arith;
+  wide = omega arith;
+  counter = omega arith;
+  clock = omega arith;
+  value = omega arith;
+  issue = omega arith;
+}
 
-  pub check-miss : isExpired t ≡ false → _≡_ {A = Check} (record { least = n; expired = c .expired }) (checkOf (t ∷ []) c)
-  unfolding leastLeft anyExpired
-  check-miss h = let g = sym (pick-false (isExpired t) true (c .expired) h) in λ i. record { least = e i; expired = g i }
-
-module _ (clock : ℕ) (s : Reassembler) where
-  pub faded-hit : isExpired (slotTimeout clock s) ≡ true → fadedSlot clock s ≡ blankSlot
-  unfolding fadedSlot
-  faded-hit h = pick-true _ _ _ h
-
-  pub faded-miss : isExpired (slotTimeout clock s) ≡ false → fadedSlot clock s ≡ s
-  unfolding fadedSlot
-  faded-miss h = pick-false _ _ _ h
-
--- a list of times, the first one checked
-module _ {A : Type 0} (T : A → Timeout) where
-  pub checks-next : (l m : List A) (s : A) (c d : Check) → l ≡ s ∷ m → d ≡ checkOf (T s ∷ []) c → checkOf (map T m) d ≡ checkOf (map T l) c
-  unfolding leastLeft anyExpired
-  checks-next l m s c d p e = ap (checkOf (map T m)) e ∙ ap (λ (k : List A). checkOf (map T k) c) (sym p)
-
-  pub checks-end : (l : List A) (c : Check) → l ≡ [] → c ≡ checkOf (map T l) c
-  unfolding leastLeft anyExpired
-  checks-end l c p = ap (λ (k : List A). checkOf (map T k) c) (sym p)
+-- what fades is what is expired
+pub slot-fades : (clock : ℕ) (s : Reassembler) → fadedSlot clock s ≡ pick (isExpired (slotTimeout clock s)) blankSlot s
+unfolding fadedSlot
+slot-fades clock s = refl
 
 -- the slot that a cancel's walk leaves
 abbrev pub sweptSlot : Eid → TagValue → Reassembler → Reassembler

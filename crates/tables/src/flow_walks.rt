@@ -16,7 +16,6 @@ use mctp::Eid;
 use mctp::Error;
 use mctp::TagValue;
 use stamp::EventStamp;
-use state::Head;
 use state::Sizes;
 
 fn find_flow_word(state: &[u8], sizes: Sizes, w: u32) -> usize
@@ -141,18 +140,7 @@ fn turn_counter(state: &mut [u8], sizes: Sizes) -> u8
 {
     let h = state::head_at(state, sizes);
     let next = (h.next_tag % 8 + 1) % 8;
-    let own = h.own_eid;
-    let stamp = h.now;
-    let turned = Head {
-        own_eid: own,
-        mtu: h.mtu,
-        now: stamp,
-        next_timeout: h.next_timeout,
-        next_tag: next,
-        next_seq: h.next_seq,
-        issue: h.issue,
-    };
-    state::put_head(state, sizes, turned);
+    state::put_head(state, sizes, h.with_tag(next));
     next
 }
 

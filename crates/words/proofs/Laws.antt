@@ -10,7 +10,7 @@ use Rattle.mctp.specs.declared.Tag.{Tag}
 use Rattle.mctp.specs.declared.Tag.the-variants.{Owned, Unowned}
 use Rattle.mctp.specs.declared.Cookie.{Cookie}
 use Rattle.mctp.specs.declared.Cookie.the-variants.{Absent, Given}
-use Rattle.mctp.specs.Terms.{tagOf, isOwner, cookieNo, cookieValue}
+use Rattle.mctp.specs.Terms.{tagOf, isOwner, tagUnder, cookieNo, cookieValue}
 use Rattle.fragment.specs.declared.Fragmenter.{Fragmenter}
 use Rattle.fragment.specs.Step.{advancedBy}
 use Rattle.words.specs.Words.{flagWord, isYes, narrow, tagFrom, cookieFrom, wordsOf, advancedRow, fragmenterOf}
@@ -20,7 +20,7 @@ flag-back true = refl
 flag-back false = refl
 
 tag-back : (t : Tag) → tagOf t .0 < 256 → tagFrom (isYes (flagWord (isOwner t))) (narrow (tagOf t .0)) ≡ t
-unfolding tagFrom pick
+unfolding tagUnder pick
 tag-back (Owned t) h = rw (mod-eq-of-lt h)
 tag-back (Unowned t) h = rw (mod-eq-of-lt h)
 

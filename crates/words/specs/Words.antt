@@ -7,10 +7,9 @@ use lib.Dec.{ltb, eqb}
 use lib.ListN.{getD, set}
 use Rattle.octets.specs.Pick.{pick}
 use Rattle.mctp.specs.declared.Tag.{Tag}
-use Rattle.mctp.specs.declared.Tag.the-variants.{Owned, Unowned}
 use Rattle.mctp.specs.declared.Cookie.{Cookie}
 use Rattle.mctp.specs.declared.Cookie.the-variants.{Absent, Given}
-use Rattle.mctp.specs.Terms.{tagOf, isOwner, cookieNo, cookieValue}
+use Rattle.mctp.specs.Terms.{tagOf, isOwner, tagUnder, cookieNo, cookieValue}
 use Rattle.fragment.specs.declared.Fragmenter.{Fragmenter}
 use Rattle.receiving.specs.declared.ReceiveHandle.{ReceiveHandle}
 use Rattle.estack.specs.declared.Message.{Message}
@@ -35,8 +34,8 @@ isYes w = ltb 0 w
 abbrev pub narrow : ℕ → ℕ
 narrow w = w % 256
 
-unfoldable pub tagFrom : Bool → ℕ → Tag
-tagFrom owner t = pick owner (Owned (record { 0 = t })) (Unowned (record { 0 = t }))
+abbrev pub tagFrom : Bool → ℕ → Tag
+tagFrom owner t = tagUnder owner (record { 0 = t })
 
 unfoldable pub cookieFrom : Bool → ℕ → Cookie
 cookieFrom has value = pick has (Given (record { 0 = value })) Absent

@@ -48,10 +48,7 @@ fn wide(b: u8) -> u64
 pub fn tag_from(owner: bool, tag: u8) -> Tag
     ensures { λ r. ⌜ r ≡ tagFrom owner tag ⌝ }
 {
-    if owner {
-        return Tag::Owned(TagValue(tag));
-    }
-    Tag::Unowned(TagValue(tag))
+    Tag::of(owner, TagValue(tag))
 }
 
 pub fn cookie_from(has: bool, value: u64) -> Cookie

@@ -1,4 +1,4 @@
--- `lend_message` meets its contract: a walk of its MIR, by hand. `tag_under` and `stretch` are called, of which the proof knows only their
+-- `lend_message` meets its contract: a walk of its MIR, by hand. `Tag::of` and `stretch` are called, of which the proof knows only their
 -- contracts, and the slice that comes back is put into the struct beside the facts. Assumes nothing.
 use mathlib.Core.Path.{_≡_, refl, ap}
 use Prim.Native.Nat.{ℕ}
@@ -41,11 +41,11 @@ use denote.Triple.Clauses.{ensured, lasts}
 use denote.Exit.{yes}
 use Rattle.octets.specs.Bytes.{part}
 use Rattle.mctp.specs.declared.Tag.{Tag}
+use Rattle.mctp.specs.Terms.{tagUnder}
 use Rattle.estack.specs.declared.Message.{Message}
 use Rattle.fragment.proofs.Walk.{also, plainly, both}
-use Rattle.messages.specs.Message.{tagUnder}
 use Rattle.messages.specs.declared.MctpMessage.{MctpMessage}
-use Rattle.messages.proofs.tag_under.Symbol.{name as #messages·tag-under}
+use Rattle.mctp.proofs.Tag.of.Symbol.{name as #mctp·tag-of}
 use Rattle.messages.proofs.stretch.Symbol.{name as #messages·stretch}
 use Rattle.messages.proofs.lend_message.Key.{name as #messages·lend-message}
 use denote.Enum.Laws as EL
@@ -68,9 +68,9 @@ use Rattle.estack.proofs.Message as F
 use Rattle.estack.proofs.Message.Laws as F′
 use Rattle.messages.proofs.MctpMessage as T
 use Rattle.messages.proofs.MctpMessage.Laws as T′
-use Rattle.messages.proofs.tag_under as tag
-use Rattle.messages.proofs.tag_under.Symbol as tag-def
-use Rattle.messages.proofs.tag_under.Met as tag-thm
+use Rattle.mctp.proofs.Tag.of as tag
+use Rattle.mctp.proofs.Tag.of.Symbol as tag-def
+use Rattle.mctp.proofs.Tag.of.Met as tag-thm
 use Rattle.messages.proofs.stretch as part-of
 use Rattle.messages.proofs.stretch.Symbol as part-def
 use Rattle.messages.proofs.stretch.Met as part-thm
@@ -127,7 +127,7 @@ module _ {M : Type 1} (𝓤 : URA M) (H : Heap 𝓤) (A : Atoms 𝓤) (W : Given
   abbrev Post : Val → SProp 𝓤
   Post = walkOf 𝓤 H A f.ended stayed (f.clauses 𝓤 H A mem run) .post (((κ, tt), (q, tt), tt, (s, (d, tt)), vals), tt)
 
-  -- the call of `tag_under`: what it is passed, what it asks, and what is known of its result
+  -- the call of `Tag::of`: what it is passed, what it asks, and what is known of its result
   abbrev to-tag : Tags 𝓤 H A mem run .Ghost
   to-tag = ((tt, tt, tt, (d .key .owner, (d .key .tag, tt)), (vbool (d .key .owner) ∷ [], (LL.val TV.the-type TV′.the-laws (d .key .tag) ∷ [], tt))), tt)
 
@@ -177,7 +177,7 @@ module _ {M : Type 1} (𝓤 : URA M) (H : Heap 𝓤) (A : Atoms 𝓤) (W : Given
       owned ! E.the-row (Is E.the-row) (LL.makes E.the-type E′.the-plain 𝓤 H A) (d .key .source) _ (y .0) $ fjoin ! $
       by ! (own-shut 𝓤 H A W (T.the-type α) (T′.the-laws α) (d .key .source, (d .key .dest, (g, (d .typ, (d .ic, (d .cookie, (r, tt))))))))
 
-  module _ (C : Calls 𝓤 H) (Λ : Loops 𝓤 H) (fm : FmC 𝓤 H (W .laws) C) (known-tag : Triple 𝓤 (C #messages·tag-under) (Tags 𝓤 H A mem run)) (known : Triple 𝓤 (C #messages·stretch) (Parts 𝓤 H A mem run)) where
+  module _ (C : Calls 𝓤 H) (Λ : Loops 𝓤 H) (fm : FmC 𝓤 H (W .laws) C) (known-tag : Triple 𝓤 (C #mctp·tag-of) (Tags 𝓤 H A mem run)) (known : Triple 𝓤 (C #messages·stretch) (Parts 𝓤 H A mem run)) where
     walk : Is (ShrSlice (named 0) κ u8) s (v ∷ []) → ent 𝓤 (onEntry 𝓤 H A f.signature (κ, tt) (q, tt) (s, (d, tt)) vals) (WpFn 𝓤 H C Λ code.function (v ∷ mach d ∷ []) Post)
     walk gs =
         qed W ((‵ (flft κ q) ⊛ ‵ ftrue) ∷ ‵ (owns (ShrSlice (named 0) κ u8 ∷ F.the-row ∷ []) (s, (d, tt)) vals) ∷ []) ∵ enter ! C Λ code.function (v ∷ mach d ∷ []) _ $
@@ -209,11 +209,11 @@ module _ {M : Type 1} (𝓤 : URA M) (H : Heap 𝓤) (A : Atoms 𝓤) (W : Given
         keep ! (0 ∷ 1 ∷ []) $ by ! (exits g r w isg eg e))))))))))))))
 
 module _ {M : Type 1} (𝓤 : URA M) (H : Heap 𝓤) (A : Atoms 𝓤) (W : Given 𝓤 H A) (mem : Memory → SProp 𝓤) (run : Routine → Fun 𝓤) where
-  lend-message-walks : (C : Calls 𝓤 H) (Λ : Loops 𝓤 H) → FmC 𝓤 H (W .laws) C → Triple 𝓤 (C #messages·tag-under) (Tags 𝓤 H A mem run) → Triple 𝓤 (C #messages·stretch) (Parts 𝓤 H A mem run) → Walks 𝓤 H A f.ended stayed (WpFn 𝓤 H C Λ code.function) (f.clauses 𝓤 H A mem run)
+  lend-message-walks : (C : Calls 𝓤 H) (Λ : Loops 𝓤 H) → FmC 𝓤 H (W .laws) C → Triple 𝓤 (C #mctp·tag-of) (Tags 𝓤 H A mem run) → Triple 𝓤 (C #messages·stretch) (Parts 𝓤 H A mem run) → Walks 𝓤 H A f.ended stayed (WpFn 𝓤 H C Λ code.function) (f.clauses 𝓤 H A mem run)
   lend-message-walks C Λ fm known-tag known = walked 𝓤 H A f.ended stayed (f.clauses 𝓤 H A mem run) (WpFn 𝓤 H C Λ code.function) (λ κs. (slice-vals, (LL.vals F.the-type F′.the-laws, tt))) (λ κs. (shr-slice-tells (named 0) (κs .0) u8, (LL.tells F.the-type F′.the-laws, tt)))
       (λ κs qs bounds a g are. via 𝓤 _ (fst∗ 𝓤 _ (emp 𝓤)) (walk 𝓤 H A W mem run (κs .0) (qs .0) (a .0) (a .1 .0) (are .1 .0) C Λ fm known-tag known (are .0)))
 
-lend-message-meets : {M : Type 1} (𝓤 : URA M) (H : Heap 𝓤) (A : Atoms 𝓤) → Given 𝓤 H A → (mem : Memory → SProp 𝓤) (run : Routine → Fun 𝓤) (𝓣 : Tables 𝓤 H) → Triple 𝓤 (𝓣 .C #messages·tag-under) (Tags 𝓤 H A mem run) → Triple 𝓤 (𝓣 .C #messages·stretch) (Parts 𝓤 H A mem run)
+lend-message-meets : {M : Type 1} (𝓤 : URA M) (H : Heap 𝓤) (A : Atoms 𝓤) → Given 𝓤 H A → (mem : Memory → SProp 𝓤) (run : Routine → Fun 𝓤) (𝓣 : Tables 𝓤 H) → Triple 𝓤 (𝓣 .C #mctp·tag-of) (Tags 𝓤 H A mem run) → Triple 𝓤 (𝓣 .C #messages·stretch) (Parts 𝓤 H A mem run)
     → Meets 𝓤 H A f.signature (WpFn 𝓤 H (𝓣 .C) (𝓣 .Λ) code.function) (f.spec 𝓤 H A mem run)
 lend-message-meets 𝓤 H A W mem run 𝓣 known-tag known =
     walk-meets 𝓤 H A f.ended stayed W (goes-dropped 𝓤 H A W 1 (shrSliceOf (0 ∷ []) tt (plain (λ _. u8))) yes (λ κs x f. refl), (goes-dropped 𝓤 H A W 1 (plain (λ _. F.the-row)) yes (λ κs x f. refl), tt))
@@ -225,5 +225,5 @@ lend-message-spec 𝓤 H 𝓜 𝓖 𝓡 =
     entered 𝓤 H (tripleOf 𝓤 H (𝓖 .A) f.signature (f.spec 𝓤 H (𝓖 .A) (𝓜 .mem) (𝓡 .run)))
     (tables 𝓤 H 𝓜 𝓡 code.env .C) (tables 𝓤 H 𝓜 𝓡 code.env .Λ) #messages·lend-message code.function (code.unfolded 𝓤 H 𝓜 𝓡)
     (lend-message-meets 𝓤 H (𝓖 .A) (givenOf 𝓤 H 𝓜 𝓖) (𝓜 .mem) (𝓡 .run) (tablesOf 𝓤 H 𝓜 (tables 𝓤 H 𝓜 𝓡 code.env))
-    (cited 𝓤 H (Tags 𝓤 H (𝓖 .A) (𝓜 .mem) (𝓡 .run)) 𝓜 𝓡 code.env #messages·tag-under tag-def.routine code.calls-messages·tag-under (tag-thm.met 𝓤 H 𝓜 𝓖 𝓡))
+    (cited 𝓤 H (Tags 𝓤 H (𝓖 .A) (𝓜 .mem) (𝓡 .run)) 𝓜 𝓡 code.env #mctp·tag-of tag-def.routine code.calls-mctp·Tag·of (tag-thm.met 𝓤 H 𝓜 𝓖 𝓡))
     (cited 𝓤 H (Parts 𝓤 H (𝓖 .A) (𝓜 .mem) (𝓡 .run)) 𝓜 𝓡 code.env #messages·stretch part-def.routine code.calls-messages·stretch (part-thm.met 𝓤 H 𝓜 𝓖 𝓡)))

@@ -1,10 +1,6 @@
--- Flow i is what its block says (`flow-get`), and its fields have their ranges (`flow-ok`).
+-- Flow i is what its block says, and its fields have their ranges (`flow-read`).
 use denote.Ref.{now}
-use mathlib.Core.Path.{_≡_, sym, _∙_}
-use Rattle.octets.proofs.Part.{lent}
-use Rattle.flows.specs.Codec.{flowWidth}
-use Rattle.state.specs.Stack.{stackOf, flowAt}
-use Rattle.state.proofs.StackLaws.{flowPlace, flow-get, flow-ok}
+use Rattle.state.proofs.StackLaws.{flow-read}
 use borrow.Author.Needs.{needs}
 use Rattle.state.proofs.flow_at.Statement.{statement}
 use Rattle.state.proofs.flow_at.Tie as tie
@@ -33,11 +29,7 @@ read-flow-requires c κs = search needs
 returns : tie.Need-returns
 returns c =
     let s = c .before .before .before in
-    let z = s .args .sizes in
-    let b = now (s .args .state) in
-    let i = s .args .i in
-    let e : c .read-flow .result ≡ flowAt i (stackOf z b) = c .read-flow .ensures ∙ rw (lent (flowPlace i) flowWidth b) (sym (flow-get z b (s .pre .0) i (s .pre .1))) in
-    (e, rw e (flow-ok z b (s .pre .0) i (s .pre .1)))
+    flow-read (s .args .sizes) (now (s .args .state)) (s .pre .0) (s .args .i) (s .pre .1) _ (c .read-flow .ensures)
 
 pub flow-at-spec : {M : Type 1} → statement M
 flow-at-spec =

@@ -1,12 +1,11 @@
 -- A narrow store in the head's bytes gives the bytes of the head with that field anew (`counter-bytes`).
 use denote.Ref.{now}
 use native.Mathlib.Omega.{arith}
-use Rattle.octets.proofs.Part.{lent, lent-back}
-use Rattle.state.specs.Layout.{headWidth}
-use Rattle.state.specs.Head.{headBytes, recounted}
+use mathlib.Core.List.{[], _∷_}
+use Rattle.octets.specs.Bytes.{puts}
 use Rattle.state.specs.Stack.{stackOf}
-use Rattle.state.proofs.HeadLaws.{head-long, counter-bytes, counter-ok}
-use Rattle.state.proofs.StackLaws.{head-same, head-ok, head-put}
+use Rattle.state.proofs.HeadLaws.{counter-bytes, counter-ok}
+use Rattle.state.proofs.StackLaws.{head-ok, head-store}
 use borrow.Author.Needs.{needs}
 use Rattle.state.proofs.put_counter.Statement.{statement}
 use Rattle.state.proofs.put_counter.Tie as tie
@@ -32,14 +31,9 @@ same-length c = search needs
 returns : tie.Need-returns
 returns c =
     let s = c .before .before .before .before .before in
-    let z = s .args .sizes in
-    let b = now (s .args .state) in
     let n = s .args .counter in
-    let l = s .pre .long in
-    let x = stackOf z b .head in
-    let y = recounted n x in
-    rw (c .before .before .write-counter .ensures, lent 0 headWidth b, head-same z b (s .pre), counter-bytes n x, lent-back 0 headWidth (headBytes y) b (head-long y) (omega arith))
-    (head-put z b (s .pre) y (counter-ok n x (omega arith) (head-ok z b (s .pre))))
+    let x = stackOf (s .args .sizes) (now (s .args .state)) .head in
+    head-store _ _ (s .pre) (puts 4 ((4, n) ∷ [])) _ _ (counter-bytes n x) (counter-ok n x (omega arith) (head-ok _ _ (s .pre))) (c .before .before .write-counter .ensures)
 
 pub put-counter-spec : {M : Type 1} → statement M
 put-counter-spec =

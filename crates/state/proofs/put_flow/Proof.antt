@@ -1,10 +1,8 @@
--- A flow stored over its block is flow i of the stack (`flow-put`).
+-- A flow stored over its block is flow i of the stack (`flow-store`).
 use denote.Ref.{now}
-use native.Mathlib.Omega.{arith}
-use Rattle.octets.proofs.Part.{lent-back}
-use Rattle.flows.specs.Codec.{flowWidth, flowBytes}
-use Rattle.flows.proofs.CodecLaws.{flow-long}
-use Rattle.state.proofs.StackLaws.{flowPlace, flow-put}
+use mathlib.Core.Path.{refl}
+use Rattle.flows.specs.Codec.{flowBytes}
+use Rattle.state.proofs.StackLaws.{flow-store}
 use borrow.Author.Needs.{needs}
 use Rattle.state.proofs.put_flow.Statement.{statement}
 use Rattle.state.proofs.put_flow.Tie as tie
@@ -36,11 +34,8 @@ same-length c = search needs
 returns : tie.Need-returns
 returns c =
     let s = c .before .before .before .before .before in
-    let b = now (s .args .state) in
-    let i = s .args .i in
-    let f = s .args .f in
-    let l = s .pre .0 .long in
-    rw (c .before .before .write-flow .ensures, lent-back (flowPlace i) flowWidth (flowBytes f) b (flow-long f) (omega arith)) (flow-put (s .args .sizes) b (s .pre .0) i f (s .pre .1) (s .pre .2))
+    let a = s .args in
+    flow-store (a .sizes) (now (a .state)) (s .pre .0) (λ _. flowBytes (a .f)) _ (a .i) (a .f) (s .pre .1) refl (s .pre .2) (c .before .before .write-flow .ensures)
 
 pub put-flow-spec : {M : Type 1} → statement M
 put-flow-spec =

@@ -1,11 +1,8 @@
--- A head stored over its block is the stack's head (`head-put`).
+-- A head stored over its block is the stack's head (`head-store`).
 use denote.Ref.{now}
-use native.Mathlib.Omega.{arith}
-use Rattle.octets.proofs.Part.{lent-back}
-use Rattle.state.specs.Layout.{headWidth}
+use mathlib.Core.Path.{refl}
 use Rattle.state.specs.Head.{headBytes}
-use Rattle.state.proofs.HeadLaws.{head-long}
-use Rattle.state.proofs.StackLaws.{head-put}
+use Rattle.state.proofs.StackLaws.{head-store}
 use borrow.Author.Needs.{needs}
 use Rattle.state.proofs.put_head.Statement.{statement}
 use Rattle.state.proofs.put_head.Tie as tie
@@ -31,10 +28,8 @@ same-length c = search needs
 returns : tie.Need-returns
 returns c =
     let s = c .before .before .before .before .before in
-    let b = now (s .args .state) in
-    let h = s .args .h in
-    let l = s .pre .0 .long in
-    rw (c .before .before .write-head .ensures, lent-back 0 headWidth (headBytes h) b (head-long h) (omega arith)) (head-put (s .args .sizes) b (s .pre .0) h (s .pre .1))
+    let a = s .args in
+    head-store (a .sizes) (now (a .state)) (s .pre .0) (λ _. headBytes (a .h)) _ (a .h) refl (s .pre .1) (c .before .before .write-head .ensures)
 
 pub put-head-spec : {M : Type 1} → statement M
 put-head-spec =

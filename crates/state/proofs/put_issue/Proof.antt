@@ -1,12 +1,11 @@
 -- A narrow store in the head's bytes gives the bytes of the head with that field anew (`issue-bytes`).
 use denote.Ref.{now}
 use native.Mathlib.Omega.{arith}
-use Rattle.octets.proofs.Part.{lent, lent-back}
-use Rattle.state.specs.Layout.{headWidth}
-use Rattle.state.specs.Head.{headBytes, reissued}
+use mathlib.Core.List.{[], _∷_}
+use Rattle.octets.specs.Bytes.{puts}
 use Rattle.state.specs.Stack.{stackOf}
-use Rattle.state.proofs.HeadLaws.{head-long, issue-bytes, issue-ok}
-use Rattle.state.proofs.StackLaws.{head-same, head-ok, head-put}
+use Rattle.state.proofs.HeadLaws.{issue-bytes, issue-ok}
+use Rattle.state.proofs.StackLaws.{head-ok, head-store}
 use borrow.Author.Needs.{needs}
 use Rattle.state.proofs.put_issue.Statement.{statement}
 use Rattle.state.proofs.put_issue.Tie as tie
@@ -32,14 +31,9 @@ same-length c = search needs
 returns : tie.Need-returns
 returns c =
     let s = c .before .before .before .before .before in
-    let z = s .args .sizes in
-    let b = now (s .args .state) in
     let n = s .args .issue in
-    let l = s .pre .long in
-    let x = stackOf z b .head in
-    let y = reissued n x in
-    rw (c .before .before .write-issue .ensures, lent 0 headWidth b, head-same z b (s .pre), issue-bytes n x, lent-back 0 headWidth (headBytes y) b (head-long y) (omega arith))
-    (head-put z b (s .pre) y (issue-ok n x (omega arith) (head-ok z b (s .pre))))
+    let x = stackOf (s .args .sizes) (now (s .args .state)) .head in
+    head-store _ _ (s .pre) (puts 24 ((8, n) ∷ [])) _ _ (issue-bytes n x) (issue-ok n x (omega arith) (head-ok _ _ (s .pre))) (c .before .before .write-issue .ensures)
 
 pub put-issue-spec : {M : Type 1} → statement M
 put-issue-spec =

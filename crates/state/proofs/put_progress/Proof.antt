@@ -1,12 +1,10 @@
 -- A narrow store in a slot's bytes gives the bytes of the slot with that sequence and length (`progress-bytes`).
 use denote.Ref.{now}
-use native.Mathlib.Omega.{arith}
-use Rattle.octets.proofs.Part.{lent, lent-back}
-use Rattle.state.specs.Layout.{slotWidth}
-use Rattle.state.specs.Slot.{slotBytes, progress}
+use Rattle.octets.specs.Bytes.{puts}
+use Rattle.state.specs.Slot.{progress, progressRow}
 use Rattle.state.specs.Stack.{stackOf, slotAt}
-use Rattle.state.proofs.SlotLaws.{slot-long, progress-bytes, progress-ok}
-use Rattle.state.proofs.StackLaws.{slotPlace, slot-same, slot-ok, slot-put}
+use Rattle.state.proofs.SlotLaws.{progress-bytes, progress-ok}
+use Rattle.state.proofs.StackLaws.{slot-ok, slot-store}
 use borrow.Author.Needs.{needs}
 use Rattle.state.proofs.put_progress.Statement.{statement}
 use Rattle.state.proofs.put_progress.Tie as tie
@@ -44,21 +42,11 @@ returns c =
     let z = s .args .sizes in
     let b = now (s .args .state) in
     let i = s .args .i in
-    let seq = s .args .seq in
-    let len = s .args .len in
-    let k = s .pre .0 in
-    let h = s .pre .1 in
-    let l = k .long in
+    let q = s .args .seq in
+    let n = s .args .len in
     let x = slotAt i (stackOf z b) in
-    let y = progress seq len x in
-    rw (
-      c .before .before .write-progress .ensures,
-      lent (slotPlace i) slotWidth b,
-      slot-same z b k i h,
-      progress-bytes seq len x,
-      lent-back (slotPlace i) slotWidth (slotBytes y) b (slot-long y) (omega arith),
-    )
-    (slot-put z b k i y h (progress-ok (z .body) seq len x (s .pre .2) (s .pre .3) (k .sizes .body) (slot-ok z b k i h)))
+    let ok = progress-ok (z .body) q n x (s .pre .2) (s .pre .3) (s .pre .0 .sizes .body) (slot-ok z b (s .pre .0) i (s .pre .1)) in
+    slot-store z b (s .pre .0) (puts 5 (progressRow q n)) _ i (progress q n x) (s .pre .1) (progress-bytes q n x) ok (c .before .before .write-progress .ensures)
 
 pub put-progress-spec : {M : Type 1} → statement M
 put-progress-spec =

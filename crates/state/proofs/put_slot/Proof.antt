@@ -1,11 +1,8 @@
--- A slot stored over its block is slot i of the stack (`slot-put`).
+-- A slot stored over its block is slot i of the stack (`slot-store`).
 use denote.Ref.{now}
-use native.Mathlib.Omega.{arith}
-use Rattle.octets.proofs.Part.{lent-back}
-use Rattle.state.specs.Layout.{slotWidth}
+use mathlib.Core.Path.{refl}
 use Rattle.state.specs.Slot.{slotBytes}
-use Rattle.state.proofs.SlotLaws.{slot-long}
-use Rattle.state.proofs.StackLaws.{slotPlace, slot-put}
+use Rattle.state.proofs.StackLaws.{slot-store}
 use borrow.Author.Needs.{needs}
 use Rattle.state.proofs.put_slot.Statement.{statement}
 use Rattle.state.proofs.put_slot.Tie as tie
@@ -37,11 +34,8 @@ same-length c = search needs
 returns : tie.Need-returns
 returns c =
     let s = c .before .before .before .before .before in
-    let b = now (s .args .state) in
-    let i = s .args .i in
-    let x = s .args .s in
-    let l = s .pre .0 .long in
-    rw (c .before .before .write-slot .ensures, lent-back (slotPlace i) slotWidth (slotBytes x) b (slot-long x) (omega arith)) (slot-put (s .args .sizes) b (s .pre .0) i x (s .pre .1) (s .pre .2))
+    let a = s .args in
+    slot-store (a .sizes) (now (a .state)) (s .pre .0) (λ _. slotBytes (a .s)) _ (a .i) (a .s) (s .pre .1) refl (s .pre .2) (c .before .before .write-slot .ensures)
 
 pub put-slot-spec : {M : Type 1} → statement M
 put-slot-spec =

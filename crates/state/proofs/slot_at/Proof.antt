@@ -1,10 +1,6 @@
--- Slot i is what its block says (`slot-get`), and its fields have their ranges (`slot-ok`).
+-- Slot i is what its block says, and its fields have their ranges (`slot-read`).
 use denote.Ref.{now}
-use mathlib.Core.Path.{_≡_, sym, _∙_}
-use Rattle.octets.proofs.Part.{lent}
-use Rattle.state.specs.Layout.{slotWidth}
-use Rattle.state.specs.Stack.{stackOf, slotAt}
-use Rattle.state.proofs.StackLaws.{slotPlace, slot-get, slot-ok}
+use Rattle.state.proofs.StackLaws.{slot-read}
 use borrow.Author.Needs.{needs}
 use Rattle.state.proofs.slot_at.Statement.{statement}
 use Rattle.state.proofs.slot_at.Tie as tie
@@ -33,11 +29,7 @@ read-slot-requires c κs = search needs
 returns : tie.Need-returns
 returns c =
     let s = c .before .before .before in
-    let z = s .args .sizes in
-    let b = now (s .args .state) in
-    let i = s .args .i in
-    let e : c .read-slot .result ≡ slotAt i (stackOf z b) = c .read-slot .ensures ∙ rw (lent (slotPlace i) slotWidth b) (sym (slot-get z b (s .pre .0) i (s .pre .1))) in
-    (e, rw e (slot-ok z b (s .pre .0) i (s .pre .1)))
+    slot-read (s .args .sizes) (now (s .args .state)) (s .pre .0) (s .args .i) (s .pre .1) _ (c .read-slot .ensures)
 
 pub slot-at-spec : {M : Type 1} → statement M
 slot-at-spec =

@@ -6,6 +6,9 @@ use Rattle.board.specs.Answers.{fetchedNo, messageAfter}
 use Rattle.board.proofs.calls.hyphaloom_fetch_message.Statement.{statement}
 use Rattle.board.proofs.calls.hyphaloom_fetch_message.Tie as tie
 
+handle-of-requires : tie.Need-handle-of-requires
+handle-of-requires c κs = search needs
+
 fetch-message-requires : tie.Need-fetch-message-requires
 fetch-message-requires c κs = search needs
 
@@ -23,20 +26,21 @@ number-requires c κs = search needs
 
 returns : tie.Need-returns
 returns c =
-    let s = c .before .before .before .before .before .before .before in
-    let e = sym (c .before .before .m .given .1) ∙ c .before .before .before .before .fetch-message .ensures in
+    let s = c .before .before .before .before .before .before .before .before in
+    let e = sym (c .before .before .m .given .1) ∙ rw (c .before .before .before .before .before .handle-of .ensures) at (c .before .before .before .before .fetch-message .ensures) in
     (ap fetchedNo e, c .message-words .ensures ∙ ap (λ (x : Fetched). messageAfter x (now (s .args .message))) e)
 
 returns-2 : tie.Need-returns-2
 returns-2 c =
-    let s = c .before .before .before .before .before .before .before in
-    let e = sym (c .before .before .err .given .1) ∙ c .before .before .before .before .fetch-message .ensures in
+    let s = c .before .before .before .before .before .before .before .before in
+    let e = sym (c .before .before .err .given .1) ∙ rw (c .before .before .before .before .before .handle-of .ensures) at (c .before .before .before .before .fetch-message .ensures) in
     (c .number .ensures ∙ ap fetchedNo e, ap (λ (x : Fetched). messageAfter x (now (s .args .message))) e)
 
 pub hyphaloom-fetch-message-spec : {M : Type 1} → statement M
 hyphaloom-fetch-message-spec =
     tie.close
     (tie.spec
+    handle-of-requires
     fetch-message-requires
     enum-known-m
     message-words-requires

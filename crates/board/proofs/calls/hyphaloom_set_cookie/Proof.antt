@@ -2,6 +2,9 @@ use borrow.Author.Needs.{needs}
 use Rattle.board.proofs.calls.hyphaloom_set_cookie.Statement.{statement}
 use Rattle.board.proofs.calls.hyphaloom_set_cookie.Tie as tie
 
+handle-of-requires : tie.Need-handle-of-requires
+handle-of-requires c κs = search needs
+
 cookie-from-requires : tie.Need-cookie-from-requires
 cookie-from-requires c κs = search needs
 
@@ -16,9 +19,10 @@ same-length c = search needs
 
 returns : tie.Need-returns
 returns c =
-    rw (← c .before .before .before .before .before .cookie-from .ensures) (rw (c .done-no .ensures, c .before .before .before .set-cookie .ensures .0), c .before .before .before .set-cookie .ensures .1)
+    let h = c .before .before .before .before .before .before .handle-of .ensures in
+    rw (← c .before .before .before .before .before .cookie-from .ensures) (rw (c .done-no .ensures, c .before .before .before .set-cookie .ensures .0, h), rw h at (c .before .before .before .set-cookie .ensures .1))
 
 pub hyphaloom-set-cookie-spec : {M : Type 1} → statement M
 hyphaloom-set-cookie-spec =
     tie.close
-    (tie.spec cookie-from-requires set-cookie-requires done-no-requires same-length returns)
+    (tie.spec handle-of-requires cookie-from-requires set-cookie-requires done-no-requires same-length returns)

@@ -6,6 +6,9 @@ use Rattle.estack.proofs.basics.put_own.Tie as tie
 head-at-requires : tie.Need-head-at-requires
 head-at-requires c κs = search needs
 
+with-own-requires : tie.Need-with-own-requires
+with-own-requires c κs = search needs
+
 put-head-requires : tie.Need-put-head-requires
 put-head-requires c κs = search needs
 
@@ -13,7 +16,7 @@ same-length : tie.Need-same-length
 same-length c = search needs
 
 returns : tie.Need-returns
-returns c = rw (c .before .before .before .before .before .head-at .ensures .0) at (c .before .before .put-head .ensures)
+returns c = rw (c .before .before .before .with-own .ensures .0, c .before .before .before .before .before .head-at .ensures .0) at (c .before .before .put-head .ensures)
 
 pub put-own-spec : {M : Type 1} → statement M
-put-own-spec = tie.close (tie.spec head-at-requires put-head-requires same-length returns)
+put-own-spec = tie.close (tie.spec head-at-requires with-own-requires put-head-requires same-length returns)

@@ -3,7 +3,7 @@ use mathlib.Core.Path.{sym, _∙_}
 use denote.Ref.{now}
 use borrow.Author.Needs.{needs}
 use Rattle.reassemble.specs.Slot.{blankSlot}
-use Rattle.tables.proofs.SlotLoops.{blank-ok}
+use Rattle.tables.proofs.SlotChecks.{blank-ok}
 use Rattle.estack.proofs.HandleLaws.{good-in, handled-good, handled-bad}
 use Rattle.estack.proofs.handles.finished_receive.Statement.{statement}
 use Rattle.estack.proofs.handles.finished_receive.Tie as tie

@@ -1,17 +1,16 @@
 -- `send_under` stores the head with the next sequence, and starts a fragmenter under it.
 use borrow.Author.Needs.{needs}
-use Rattle.estack.proofs.SendLaws.{sequenced-ok}
 use Rattle.estack.proofs.sends.send_under.Statement.{statement}
 use Rattle.estack.proofs.sends.send_under.Tie as tie
 
 head-at-requires : tie.Need-head-at-requires
 head-at-requires c κs = search needs
 
-add-seq : tie.Need-add-seq
-add-seq c = search needs
+with-next-seq-requires : tie.Need-with-next-seq-requires
+with-next-seq-requires c κs = search needs
 
 put-head-requires : tie.Need-put-head-requires
-put-head-requires c κs = (c .before .before .before .before .before .before .before .pre, sequenced-ok (c .before .before .before .before .head-at .result) (c .before .before .before .before .head-at .ensures .1))
+put-head-requires c κs = search needs
 
 mtu-for-requires : tie.Need-mtu-for-requires
 mtu-for-requires c κs = search needs
@@ -24,15 +23,16 @@ same-length c = search needs
 
 returns : tie.Need-returns
 returns c =
-    let e = c .before .before .before .before .before .before .before .before .before .head-at .ensures .0 in
-    (rw (c .before .mtu-for .ensures, e) at (c .new .ensures), rw e at (c .before .before .before .before .put-head .ensures))
+    let q = c .before .before .before .before .before .before .with-next-seq .ensures .0 in
+    let e = c .before .before .before .before .before .before .before .head-at .ensures .0 in
+    (rw (c .before .mtu-for .ensures, q, e) at (c .new .ensures), rw (q, e) at (c .before .before .before .before .put-head .ensures))
 
 pub send-under-spec : {M : Type 1} → statement M
 send-under-spec =
     tie.close
     (tie.spec
     head-at-requires
-    add-seq
+    with-next-seq-requires
     put-head-requires
     mtu-for-requires
     new-requires

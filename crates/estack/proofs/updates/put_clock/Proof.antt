@@ -2,21 +2,22 @@
 use denote.Ref.{now}
 use borrow.Author.Needs.{needs}
 use Rattle.state.proofs.StackLaws.{head-ok}
-use Rattle.state.specs.Head.{HeadOk}
 use Rattle.estack.proofs.updates.put_clock.Statement.{statement}
 use Rattle.estack.proofs.updates.put_clock.Tie as tie
 
+with-clock-requires : tie.Need-with-clock-requires
+with-clock-requires c κs =
+    let s = c .before .before in
+    (rw (s .pre .1) (head-ok (s .args .sizes) (now (s .args .state)) (s .pre .0)), s .pre .2)
+
 put-head-requires : tie.Need-put-head-requires
-put-head-requires c κs =
-    let s = c .before .before .before in
-    let ok : HeadOk (s .args .h) = rw (s .pre .1) (head-ok (s .args .sizes) (now (s .args .state)) (s .pre .0)) in
-    search needs
+put-head-requires c κs = search needs
 
 same-length : tie.Need-same-length
 same-length c = search needs
 
 returns : tie.Need-returns
-returns c = search needs
+returns c = rw (c .before .before .before .with-clock .ensures .0) at (c .before .before .put-head .ensures)
 
 pub put-clock-spec : {M : Type 1} → statement M
-put-clock-spec = tie.close (tie.spec put-head-requires same-length returns)
+put-clock-spec = tie.close (tie.spec with-clock-requires put-head-requires same-length returns)

@@ -1,5 +1,6 @@
 -- `receive` looks at the pool first, then at the header; a bad one writes nothing.
 use Prim.Native.Nat.{ℕ, _*_, _≤_, _<_}
+use native.Mathlib.Omega.{arith}
 use mathlib.Core.Path.{sym, subst, _∙_}
 use lib.ListN.{length}
 use denote.Ref.{now}
@@ -8,13 +9,14 @@ use Rattle.mctp.specs.declared.HeaderRead.the-variants.{Good, Bad}
 use Rattle.mctp.specs.declared.Error.the-variants.{PoolShort}
 use Rattle.state.specs.Stack.{stackOf}
 use Rattle.state.proofs.StackLaws.{slots-length, stays}
-use Rattle.receiving.proofs.Entered.{sizes-fit, good-low}
+use Rattle.receiving.proofs.Entered.{good-low}
+use Rattle.receiving.proofs.SizeLaws.{pool-fits}
 use Rattle.receiving.proofs.Receipts.{makes-as, refusal, bad-writes, short-pool, long-pool}
 use Rattle.receiving.proofs.steps.receive.Statement.{statement}
 use Rattle.receiving.proofs.steps.receive.Tie as tie
 
 mul-if1 : tie.Need-mul-if1
-mul-if1 c = record { fits = sizes-fit (c .before .before .before .before .args .sizes) (c .before .before .before .before .pre .sizes) }
+mul-if1 c = let s = c .before .before .before .before in record { fits = pool-fits (s .args .sizes) (s .pre .sizes) (s .args .sizes .slots) (omega arith) }
 
 returns : tie.Need-returns
 returns c =

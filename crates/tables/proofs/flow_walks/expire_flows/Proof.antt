@@ -1,23 +1,26 @@
--- `expire_flows` meets its contract. The loop's invariant, `Walk`: the places before `i` are faded, and what was found goes on to what the whole check finds.
-use Rattle.state.specs.Layout.{flowCount}
-use Rattle.tables.proofs.FlowLaws.{Walk, walk-start, walk-next, walk-done, same-long}
-use denote.Ref.{now}
+-- `expire_flows` meets its contract: a walk over the flows (`Checked`).
 use Prim.Native.Nat.{_-_}
+use denote.Ref.{now}
+use Rattle.flows.specs.Table.{flowTimeout, fadedFlow}
+use Rattle.state.specs.Layout.{flowCount}
+use Rattle.tables.proofs.PartLoops.{flowPart, Checked, check-start, check-next, check-done, becomes-length}
 use borrow.Author.Needs.{needs}
 use Rattle.tables.proofs.flow_walks.expire_flows.Statement.{statement}
 use Rattle.tables.proofs.flow_walks.expire_flows.Tie as tie
 
 abbrev Inv-loop : tie.InvT-loop
-Inv-loop state₀ sizes clock found₀ i₀ state found i = Walk sizes clock state₀ found₀ state found i
+Inv-loop state₀ sizes clock found₀ i₀ state found i = Checked flowPart sizes (flowTimeout clock) (fadedFlow clock) state₀ found₀ state found i
 
 abbrev μ-loop : tie.MeasureT-loop
 μ-loop state₀ sizes clock found₀ i₀ state found i = flowCount - i
 
 loop-holds : tie.Need-loop-holds Inv-loop μ-loop
-loop-holds c = let s = c .before in walk-start (s .args .sizes) (s .args .clock) (now (s .args .state)) (s .args .c) (s .pre)
+loop-holds c =
+    let a = c .before .args in
+    check-start flowPart (a .sizes) (flowTimeout (a .clock)) (fadedFlow (a .clock)) (now (a .state)) (a .c) (c .before .pre)
 
 expire-flow-requires : tie.Need-expire-flow-requires Inv-loop μ-loop
-expire-flow-requires c κs = (c .before .before .loop .inv .became .kept, search needs)
+expire-flow-requires c κs = (c .before .before .loop .inv .walked .made .kept, search needs)
 
 add-i : tie.Need-add-i Inv-loop μ-loop
 add-i c = search needs
@@ -30,18 +33,18 @@ loop-again c =
     let a = c .before .before .before .before .before .before .before .args in
     let l = c .before .before .before .before .before .loop in
     let e = c .before .before .expire-flow in
-    walk-next (a .sizes) (a .clock) (now (a .state)) (a .c) (l .state) (l .found) (l .i) (l .inv) (e .last .0) _ (c .before .before .before .before .loop-test .taken) (e .ensures .1) (e .ensures .0)
+    check-next flowPart (a .sizes) (flowTimeout (a .clock)) (fadedFlow (a .clock)) (now (a .state)) (a .c) (l .state) (l .found) (l .i) (e .last .0) _ (l .inv) (c .before .before .before .before .loop-test .taken) (e .ensures .0) (e .ensures .1)
 
 same-length : tie.Need-same-length Inv-loop μ-loop
 same-length c =
     let s = c .before .before .before in
-    same-long (s .args .sizes) (now (s .args .state)) (c .before .loop .state) _ (s .pre) (c .before .loop .inv .became)
+    becomes-length (s .args .sizes) (now (s .args .state)) (c .before .loop .state) _ (s .pre) (c .before .loop .inv .walked .made)
 
 returns : tie.Need-returns Inv-loop μ-loop
 returns c =
     let a = c .before .before .before .args in
     let l = c .before .loop in
-    walk-done (a .sizes) (a .clock) (now (a .state)) (a .c) (l .state) (l .found) (l .i) (l .inv) (c .loop-test .left)
+    check-done flowPart (a .sizes) (flowTimeout (a .clock)) (fadedFlow (a .clock)) (now (a .state)) (a .c) (l .state) (l .found) (l .i) (l .inv) (c .loop-test .left)
 
 pub expire-flows-spec : {M : Type 1} → statement M
 expire-flows-spec =

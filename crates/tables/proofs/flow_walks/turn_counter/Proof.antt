@@ -6,7 +6,7 @@ use Rattle.tables.specs.Walks.{retable, tableOf}
 use Rattle.tables.proofs.FlowLaws.{becomes-as}
 use Rattle.state.specs.Stack.{rehead}
 use denote.Ref.{now}
-use mathlib.Core.Path.{ap}
+use mathlib.Core.Path.{ap, _∙_}
 use Prim.Native.Nat.{_+_, _%_}
 use native.Mathlib.Omega.{arith}
 use borrow.Author.Needs.{needs}
@@ -19,37 +19,27 @@ head-at-requires c κs = search needs
 add-next : tie.Need-add-next
 add-next c = search needs
 
+with-tag-requires : tie.Need-with-tag-requires
+with-tag-requires c κs = search needs
+
 put-head-requires : tie.Need-put-head-requires
-put-head-requires c κs =
-    let ok = c .before .before .before .before .head-at .ensures .1 in (
-      c .before .before .before .before .before .before .before .pre,
-      record {
-        own = ok .own;
-        tag = omega arith;
-        seq = ok .seq;
-        counter = ok .counter;
-        clock = ok .clock;
-        planned = ok .planned;
-        issue = ok .issue;
-        mtu = ok .mtu;
-        soon = ok .soon;
-      },
-    )
+put-head-requires c κs = search needs
 
 same-length : tie.Need-same-length
 same-length c = search needs
 
 returns : tie.Need-returns
 returns c =
-    let a = c .before .before .before .before .before .before .before .before .before .before .args in
-    let h = c .before .before .before .before .before .before .before .head-at in
+    let a = c .before .before .before .before .before .before .before .before .before .args in
+    let h = c .before .before .before .before .before .before .head-at in
     let p = c .before .before .put-head in
     let z = a .sizes in
     let b = now (a .state) in
     let st = stackOf z b in
-    let e = ap (λ (h : Head). retable (turned (tableOf (rehead h st))) (rehead h st)) (h .ensures .0) in
-    (ap (λ (h : Head). (h .«next_tag» % 8 + 1) % 8) (h .ensures .0), becomes-as z b (p .last .0) e (p .ensures), omega arith)
+    let e = ap (λ (x : Head). retable (turned (tableOf (rehead x st))) (rehead x st)) (h .ensures .0) in
+    let t = ap (λ (x : Head). rehead x st) (c .before .before .before .with-tag .ensures .0) in
+    (ap (λ (x : Head). (x .«next_tag» % 8 + 1) % 8) (h .ensures .0), becomes-as z b (p .last .0) (t ∙ e) (p .ensures), omega arith)
 
 pub turn-counter-spec : {M : Type 1} → statement M
 turn-counter-spec =
-    tie.close (tie.spec head-at-requires add-next put-head-requires same-length returns)
+    tie.close (tie.spec head-at-requires add-next with-tag-requires put-head-requires same-length returns)

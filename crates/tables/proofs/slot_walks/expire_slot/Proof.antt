@@ -1,14 +1,11 @@
 -- `expire_slot` asks the slot's time once: expired, the slot is blank, else as it was.
-use mathlib.Core.Path.{sym, ap, subst, _∙_}
 use denote.Ref.{now}
-use Rattle.stamp.specs.declared.Timeout.{Timeout}
-use Rattle.stamp.specs.Stamp.{isExpired, soonerOf}
+use mathlib.Core.Path.{sym, subst}
 use Rattle.reassemble.specs.declared.Reassembler.{Reassembler}
 use Rattle.reassemble.specs.Slot.{slotTimeout, fadedSlot}
 use Rattle.state.specs.Slot.{SlotOk}
-use Rattle.state.specs.Stack.{stackOf, slotAt}
-use Rattle.tables.proofs.SlotLoops.{slot-is, same-slot, blank-ok}
-use Rattle.tables.proofs.SlotChecks.{check-hit, check-miss, faded-hit, faded-miss}
+use Rattle.tables.proofs.SlotChecks.{blank-ok, slot-fades}
+use Rattle.tables.proofs.PartLoops.{slotPart, expire-gone, expire-stays}
 use borrow.Author.Needs.{needs}
 use Rattle.tables.proofs.slot_walks.expire_slot.Statement.{statement}
 use Rattle.tables.proofs.slot_walks.expire_slot.Tie as tie
@@ -39,15 +36,12 @@ same-length c = search needs
 returns : tie.Need-returns
 returns c =
     let s = c .before .before .before .before .before .before .before .before .before .before .before .before in
-    let z = s .args .sizes in
-    let b = now (s .args .state) in
-    let i = s .args .i in
-    let k = s .args .clock in
-    let a = slotAt i (stackOf z b) in
-    let e = c .before .before .before .before .before .before .before .before .check-expired .ensures ∙ ap (slotTimeout k) (c .before .before .before .before .before .before .before .before .before .slot-at .ensures .0) in
-    let m = c .before .before .before .before .before .before .before .sooner .ensures .0 ∙ ap (λ (t : Timeout). soonerOf t (s .args .c .least)) e in
-    let x = ap isExpired (sym e) ∙ sym (c .before .before .before .before .before .before .is-expired .ensures) ∙ c .before .before .before .before .before .if1 .taken in
-    (check-hit (slotTimeout k a) _ (s .args .c) m x, slot-is z b _ i _ (fadedSlot k a) (c .before .before .before .blank .ensures ∙ sym (faded-hit k a x)) (c .before .before .put-slot .ensures))
+    let a = s .args in
+    let g = c .before .before .before .before .before in
+    let t = g .before .before .before in
+    expire-gone slotPart (a .sizes) (slotTimeout (a .clock)) (fadedSlot (a .clock)) (slot-fades (a .clock)) (now (a .state)) (a .i) (a .c) _ _ _ _
+    (t .before .slot-at .ensures .0) (t .check-expired .ensures) (g .before .before .sooner .ensures .0) (g .before .is-expired .ensures) (g .if1 .taken)
+    _ _ (c .before .before .before .blank .ensures) (c .before .before .put-slot .ensures)
 
 same-length-2 : tie.Need-same-length-2
 same-length-2 c = search needs
@@ -55,15 +49,10 @@ same-length-2 c = search needs
 returns-2 : tie.Need-returns-2
 returns-2 c =
     let s = c .before .before .before .before .before .before .before in
-    let z = s .args .sizes in
-    let b = now (s .args .state) in
-    let i = s .args .i in
-    let k = s .args .clock in
-    let a = slotAt i (stackOf z b) in
-    let e = c .before .before .before .check-expired .ensures ∙ ap (slotTimeout k) (c .before .before .before .before .slot-at .ensures .0) in
-    let m = c .before .before .sooner .ensures .0 ∙ ap (λ (t : Timeout). soonerOf t (s .args .c .least)) e in
-    let x = ap isExpired (sym e) ∙ sym (c .before .is-expired .ensures) ∙ c .if1 .left in
-    (check-miss (slotTimeout k a) _ (s .args .c) m x, slot-is z b b i a (fadedSlot k a) (sym (faded-miss k a x)) (same-slot z b i (s .pre .0)))
+    let a = s .args in
+    let t = c .before .before .before in
+    expire-stays slotPart (a .sizes) (slotTimeout (a .clock)) (fadedSlot (a .clock)) (slot-fades (a .clock)) (now (a .state)) (a .i) (a .c) _ _ _ _
+    (t .before .slot-at .ensures .0) (t .check-expired .ensures) (c .before .before .sooner .ensures .0) (c .before .is-expired .ensures) (c .if1 .left) (s .pre .0)
 
 pub expire-slot-spec : {M : Type 1} → statement M
 expire-slot-spec =

@@ -1,33 +1,25 @@
--- `expire_slots` walks upward: what is ahead of `i` fades as from the start, and the check of it goes on from what was found.
-use Prim.Native.Nat.{_-_, suc}
-use mathlib.Core.Path.{_≡_, refl, sym, ap, _∙_}
-use mathlib.Core.List.{List, map}
-use lib.ListN.{drop}
+-- `expire_slots` meets its contract: a walk over the slots (`Checked`).
+use Prim.Native.Nat.{_-_}
 use denote.Ref.{now}
-use borrow.Author.Needs.{needs}
-use Rattle.reassemble.specs.declared.Reassembler.{Reassembler}
 use Rattle.reassemble.specs.Slot.{slotTimeout, fadedSlot}
-use Rattle.state.specs.Stack.{stackOf, slotAt}
-use Rattle.tables.specs.Walks.{checkOf, slotTimes}
-use Rattle.tables.proofs.SlotLoops.{slotsIn, Walked, walk-start, walk-next, walk-done, drop-here, drop-next, drop-end, becomes-length}
-use Rattle.tables.proofs.SlotChecks.{checks-next, checks-end}
+use Rattle.tables.proofs.PartLoops.{slotPart, Checked, check-start, check-next, check-done, becomes-length}
+use borrow.Author.Needs.{needs}
 use Rattle.tables.proofs.slot_walks.expire_slots.Statement.{statement}
 use Rattle.tables.proofs.slot_walks.expire_slots.Tie as tie
 
 abbrev Inv-loop : tie.InvT-loop
-Inv-loop state₀ sizes clock n found₀ i₀ state found i =
-    Walked sizes (map (fadedSlot clock)) state₀ state i × (checkOf (map (slotTimeout clock) (drop i (slotsIn sizes state))) found ≡ checkOf (slotTimes clock (stackOf sizes state₀)) found₀)
+Inv-loop state₀ sizes clock n found₀ i₀ state found i = Checked slotPart sizes (slotTimeout clock) (fadedSlot clock) state₀ found₀ state found i
 
 abbrev μ-loop : tie.MeasureT-loop
 μ-loop state₀ sizes clock n found₀ i₀ state found i = sizes .slots - i
 
 loop-holds : tie.Need-loop-holds Inv-loop μ-loop
 loop-holds c =
-    let s = c .before in
-    (walk-start (s .args .sizes) (map (fadedSlot (s .args .clock))) (now (s .args .state)) (s .pre), refl)
+    let a = c .before .args in
+    check-start slotPart (a .sizes) (slotTimeout (a .clock)) (fadedSlot (a .clock)) (now (a .state)) (a .c) (c .before .pre)
 
 expire-slot-requires : tie.Need-expire-slot-requires Inv-loop μ-loop
-expire-slot-requires c κs = (c .before .before .loop .inv .0 .made .kept, search needs)
+expire-slot-requires c κs = (c .before .before .loop .inv .walked .made .kept, search needs)
 
 add-i : tie.Need-add-i Inv-loop μ-loop
 add-i c = search needs
@@ -37,35 +29,21 @@ loop-less c = search needs
 
 loop-again : tie.Need-loop-again Inv-loop μ-loop
 loop-again c =
-    let s = c .before .before .before .before .before .before .before in
+    let a = c .before .before .before .before .before .before .before .args in
     let l = c .before .before .before .before .before .loop in
-    let z = s .args .sizes in
-    let k = s .args .clock in
-    let b = l .state in
-    let f = map (fadedSlot k) in
-    let a = slotAt (l .i) (stackOf z b) in
-    let h = c .before .before .before .before .loop-test .taken in
-    let q = c .before .before .expire-slot .ensures .1 in
-    let e = checks-next (slotTimeout k) (drop (l .i) (slotsIn z b)) (drop (suc (l .i)) (slotsIn z b)) a (l .found) _ (drop-here z b (l .i) h) (c .before .before .expire-slot .ensures .0) in (
-      walk-next z f (now (s .args .state)) b _ (l .i) (fadedSlot k a) (l .inv .0) h q refl,
-      ap (λ (m : List Reassembler). checkOf (map (slotTimeout k) m) (c .before .before .expire-slot .result)) (drop-next z b _ (l .i) (fadedSlot k a) q) ∙ e ∙ l .inv .1,
-    )
+    let e = c .before .before .expire-slot in
+    check-next slotPart (a .sizes) (slotTimeout (a .clock)) (fadedSlot (a .clock)) (now (a .state)) (a .c) (l .state) (l .found) (l .i) (e .last .0) _ (l .inv) (c .before .before .before .before .loop-test .taken) (e .ensures .0) (e .ensures .1)
 
 same-length : tie.Need-same-length Inv-loop μ-loop
 same-length c =
     let s = c .before .before .before in
-    becomes-length (s .args .sizes) (now (s .args .state)) (c .before .loop .state) _ (s .pre) (c .before .loop .inv .0 .made)
+    becomes-length (s .args .sizes) (now (s .args .state)) (c .before .loop .state) _ (s .pre) (c .before .loop .inv .walked .made)
 
 returns : tie.Need-returns Inv-loop μ-loop
 returns c =
-    let s = c .before .before .before in
+    let a = c .before .before .before .args in
     let l = c .before .loop in
-    let z = s .args .sizes in
-    let k = s .args .clock in
-    let b = l .state in
-    let g = drop-end z b (l .i) (c .loop-test .left) in
-    let f = map (fadedSlot k) in
-    (checks-end (slotTimeout k) (drop (l .i) (slotsIn z b)) (l .found) g ∙ l .inv .1, walk-done z f (now (s .args .state)) b (l .i) (l .inv .0) (ap f g ∙ sym g))
+    check-done slotPart (a .sizes) (slotTimeout (a .clock)) (fadedSlot (a .clock)) (now (a .state)) (a .c) (l .state) (l .found) (l .i) (l .inv) (c .loop-test .left)
 
 pub expire-slots-spec : {M : Type 1} → statement M
 expire-slots-spec =

@@ -5,8 +5,8 @@ use Rattle.reassemble.specs.declared.Reassembler.{Reassembler}
 use Rattle.reassemble.specs.Slot.{isReply, handleTaken}
 use Rattle.state.specs.Slot.{SlotOk}
 use Rattle.state.specs.Stack.{stackOf, slotAt}
-use Rattle.tables.proofs.SlotLoops.{slot-is, same-slot, blank-ok}
-use Rattle.tables.proofs.SlotChecks.{sweptSlot, stops, frees, passes}
+use Rattle.tables.proofs.PartLoops.{slotPart, stored-as, same-stored}
+use Rattle.tables.proofs.SlotChecks.{blank-ok, sweptSlot, stops, frees, passes}
 use borrow.Author.Needs.{needs}
 use Rattle.tables.proofs.slot_walks.sweep_slot.Statement.{statement}
 use Rattle.tables.proofs.slot_walks.sweep_slot.Tie as tie
@@ -36,7 +36,7 @@ returns c =
     let r = ap (isReply p t) e ∙ sym (c .before .before .before .is-reply .ensures) ∙ c .before .before .if1 .taken in
     let h = ap handleTaken e ∙ sym (c .before .handle-taken .ensures) ∙ c .if2 .taken in
     let w = stops p t a r h in
-    (w .0, slot-is z b b i a (sweptSlot p t a) (w .1) (same-slot z b i (s .pre .0)))
+    (w .0, stored-as slotPart z b i b a (sweptSlot p t a) (w .1) (same-stored slotPart z b i (s .pre .0)))
 
 blank-requires : tie.Need-blank-requires
 blank-requires c κs = search needs
@@ -62,7 +62,7 @@ returns-2 c =
     let r = ap (isReply p t) e ∙ sym (c .before .before .before .before .before .before .before .before .is-reply .ensures) ∙ c .before .before .before .before .before .before .before .if1 .taken in
     let h = ap handleTaken e ∙ sym (c .before .before .before .before .before .before .handle-taken .ensures) ∙ c .before .before .before .before .before .if2 .left in
     let w = frees p t a r h in
-    (w .0, slot-is z b _ i _ (sweptSlot p t a) (c .before .before .before .blank .ensures ∙ w .1) (c .before .before .put-slot .ensures))
+    (w .0, stored-as slotPart z b i _ _ (sweptSlot p t a) (c .before .before .before .blank .ensures ∙ w .1) (c .before .before .put-slot .ensures))
 
 same-length-3 : tie.Need-same-length-3
 same-length-3 c = search needs
@@ -79,7 +79,7 @@ returns-3 c =
     let e = sym (c .before .before .slot-at .ensures .0) in
     let r = ap (isReply p t) e ∙ sym (c .before .is-reply .ensures) ∙ c .if1 .left in
     let w = passes p t a r in
-    (w .0, slot-is z b b i a (sweptSlot p t a) (w .1) (same-slot z b i (s .pre .0)))
+    (w .0, stored-as slotPart z b i b a (sweptSlot p t a) (w .1) (same-stored slotPart z b i (s .pre .0)))
 
 pub sweep-slot-spec : {M : Type 1} → statement M
 sweep-slot-spec =
