@@ -1,4 +1,5 @@
 -- Whether a figure's stack is made: `new` answers 0.
+-- It is all that `bay` promises of a figure; what a figure writes is held to the program's `stdout`.
 -- Leans on `estack` for what `new` says, on `board` for its number.
 use Prim.Native.Nat.{ℕ}
 use mathlib.Core.Bool.{Bool}

@@ -1,4 +1,5 @@
--- What an exported call answers: 0 or the refusal's number; and what it leaves in the record that it is lent: a refusal leaves it as it was.
+-- What an exported call answers: 0 or the refusal's number.
+-- And what it leaves in the row that it is lent: a refusal leaves it as it was.
 -- Leans on the answers of `estack`, `receiving` and `fragment`, and on the rows of `words`.
 use Prim.Native.Nat.{ℕ}
 use mathlib.Core.List.{List, [], _∷_}

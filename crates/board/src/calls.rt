@@ -127,7 +127,7 @@ pub extern "C" fn hyphaloom_fragment(
     let next = plan.next;
     let output = plan.output;
     let said = put_step(fragmenter, len, next, output);
-    fragment::write(plan, payload, out);
+    f.write(payload, out);
     said
 }
 

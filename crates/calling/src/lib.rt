@@ -1,5 +1,6 @@
-// Calls by their number, as a stored list of calls has them, that answer numbers alone. oracle/README.md has the list's form.
-// Leans on `board` for the calls; `carrying` has the calls that move bytes.
+// Calls by their number, as a stored list of calls has them: those that answer numbers alone.
+// `plain` has the calls that take numbers, `looked` the two lookups; oracle/README.md has the list's form. `carrying` has the calls that move bytes.
+// Leans on `board` for the calls.
 ghost use mathlib.Core.Path.{_≡_};
 ghost use mathlib.Core.Bool.{true};
 ghost use Rattle.state.specs.Stack.{Kept};

@@ -1,4 +1,5 @@
 // A call by its number, as a stored list of calls has it, whatever it moves: what is asked, and what it answers, as numbers and bytes.
+// `perform` takes a record's operation, numbers and bytes, and leaves its answer's in the caller's buffers; oracle/README.md has the list's form.
 // Leans on `board` for the calls, on `calling` for those that answer numbers alone, on `copying` for bytes.
 ghost use Prim.Native.Nat.{_≤_};
 ghost use lib.ListN.{length};

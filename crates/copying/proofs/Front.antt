@@ -1,15 +1,15 @@
 -- Laws of a copy by moves: a number's bytes moved, two moves side by side, and a front that moves carry on to the whole.
-use Prim.Native.Nat.{ℕ, _+_, _-_, _≤_}
+use Prim.Native.Nat.{ℕ, _+_, _-_, _≤_, _<_}
 use native.Mathlib.Nat.{zero-add}
 use native.Mathlib.Omega.{arith}
 use mathlib.Core.Path.{_≡_, refl, sym, ap, _∙_}
 use mathlib.Core.List.{List, _++_, append-assoc}
-use lib.ListN.{length, getD, take, drop, length-drop}
+use lib.ListN.{length, getD, set, take, drop, length-append, length-drop}
 use lib.Seq.{take-append-le, take-take, take-add, take-length, drop-drop, drop-append-add, length-take-le}
 use mir.Syntax.{w8}
 use mir.Val.{Fits}
 use Rattle.octets.specs.Bytes.{le, num, part, over}
-use Rattle.octets.proofs.Part.{part-add, length-part, over-over}
+use Rattle.octets.proofs.Part.{part-add, part-one, length-part, over-over, over-set}
 use Rattle.octets.proofs.Number.{bytes-slice, le-field}
 
 -- d with the first n bytes of s over its front
@@ -43,6 +43,14 @@ module _ (s d : List ℕ) where
       let t : p + length (take m (drop p s)) ≡ length (take n s) + k = omega arith in
       let r : n + k ≡ p + m = omega arith in
       q ∙ rw (u, t, take-append-le p (take n s) (drop n d) (omega arith), take-take p n s hp, drop-append-add (take n s) (drop n d) k, drop-drop k n d, r, take-add p m s, append-assoc (take p s) (take m (drop p s)) (drop (p + m) d))
+
+  -- one byte by its index, which is in the front or at its end
+  pub front-byte : (n p : ℕ) {e f : List ℕ} → e ≡ front n s d → f ≡ set e p (getD s p 0) → p ≤ n → n ≤ p + 1 → n ≤ length s → p < length s → length s ≤ length d → f ≡ front (p + 1) s d
+  unfolding front
+  front-byte n p {e = e} u q hp hn hl h k =
+      let ln : length (take n s) ≡ n = length-take-le n s hl in
+      let l : length e ≡ length d = rw (u, length-append, length-drop, ln) (omega arith) in
+      front-next n p 1 u (q ∙ rw (over-set p (getD s p 0) e (omega arith), part-one p s h)) hp hn (omega arith)
 
   pub front-all : (n : ℕ) {e : List ℕ} → e ≡ front n s d → n ≡ length s → e ≡ s ++ drop (length s) d
   unfolding front

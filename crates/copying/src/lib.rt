@@ -1,29 +1,59 @@
-// The copying leaf: all of a slice to the front of another, by moves of 1, 2, 4, 8 and 16 bytes. Leans on the numbers of `octets`.
-// A move reads all its bytes before it writes the first: a `&mut` is not marked noalias, and only so LLVM makes two moves of 8 side by
-// side one load and one store.
+// The copying leaf: a slice over the front of another, as far as it fits, by moves of 1, 4, 8 and 16 bytes.
+// A move reads all its bytes before it writes the first, since a `&mut` is not marked noalias: only so two of 8 side by side become one of 16.
+// Leans on the numbers of `octets`, each at a window of its own width, so that none of their tests is left.
 ghost use mathlib.Core.Path.{_≡_};
 ghost use mathlib.Core.List.{_++_};
 ghost use Prim.Native.Nat.{_+_, _≤_, _<_};
 ghost use lib.ListN.{length, drop};
-ghost use Rattle.octets.specs.Bytes.{part, over};
-use octets::get1;
-use octets::get2;
+ghost use Rattle.octets.specs.Bytes.{le, field, part, over, lay};
 use octets::get4;
 use octets::get8;
-use octets::put1;
-use octets::put2;
 use octets::put4;
 use octets::put8;
+use octets::smaller;
+
+// The number of 4 bytes of `src` from `i`, and its store; then of 8.
+fn load4(src: &[u8], i: usize) -> u32
+    requires { ⌜ i + 4 ≤ length (now src) ⌝ }
+    ensures { λ r. ⌜ r ≡ field i 4 (now (src .entry)) ⌝ }
+{
+    let end = i + 4;
+    get4(&src[i..end], 0)
+}
+
+fn store4(dst: &mut [u8], i: usize, x: u32)
+    requires { ⌜ i + 4 ≤ length (now dst) ⌝ }
+    ensures { λ _. ⌜ now (dst .exit) ≡ over i (le 4 x) (now (dst .entry)) ⌝ }
+{
+    let end = i + 4;
+    put4(&mut dst[i..end], 0, x);
+}
+
+fn load8(src: &[u8], i: usize) -> u64
+    requires { ⌜ i + 8 ≤ length (now src) ⌝ }
+    ensures { λ r. ⌜ r ≡ field i 8 (now (src .entry)) ⌝ }
+{
+    let end = i + 8;
+    get8(&src[i..end], 0)
+}
+
+fn store8(dst: &mut [u8], i: usize, x: u64)
+    requires { ⌜ i + 8 ≤ length (now dst) ⌝ }
+    ensures { λ _. ⌜ now (dst .exit) ≡ over i (le 8 x) (now (dst .entry)) ⌝ }
+{
+    let end = i + 8;
+    put8(&mut dst[i..end], 0, x);
+}
 
 // 8 bytes of `src` from `i` and 8 from `j`, to the same places of `dst`; then 16 and 16.
 fn pair8(dst: &mut [u8], src: &[u8], i: usize, j: usize)
     requires { ⌜ (i + 8 ≤ length (now src)) × (j + 8 ≤ length (now src)) × (length (now src) ≤ length (now dst)) ⌝ }
     ensures { λ _. ⌜ now (dst .exit) ≡ over j (part j 8 (now (src .entry))) (over i (part i 8 (now (src .entry))) (now (dst .entry))) ⌝ }
 {
-    let lo = get8(src, i);
-    let hi = get8(src, j);
-    put8(dst, i, lo);
-    put8(dst, j, hi);
+    let lo = load8(src, i);
+    let hi = load8(src, j);
+    store8(dst, i, lo);
+    store8(dst, j, hi);
 }
 
 fn pair16(dst: &mut [u8], src: &[u8], i: usize, j: usize)
@@ -43,17 +73,20 @@ fn short(dst: &mut [u8], src: &[u8])
         return;
     }
     if 4 <= n {
-        let lo = get4(src, 0);
-        let hi = get4(src, n - 4);
-        put4(dst, 0, lo);
-        put4(dst, n - 4, hi);
+        let lo = load4(src, 0);
+        let hi = load4(src, n - 4);
+        store4(dst, 0, lo);
+        store4(dst, n - 4, hi);
         return;
     }
-    put1(dst, 0, get1(src, 0));
+    dst[0] = src[0];
     if n < 2 {
         return;
     }
-    put2(dst, n - 2, get2(src, n - 2));
+    let lo = src[n - 2];
+    let hi = src[n - 1];
+    dst[n - 2] = lo;
+    dst[n - 1] = hi;
 }
 
 fn long(dst: &mut [u8], src: &[u8])
@@ -69,8 +102,7 @@ fn long(dst: &mut [u8], src: &[u8])
     pair16(dst, src, n - 32, n - 16);
 }
 
-// `src` over the front of `dst`; what lies past it stays.
-pub fn copy(dst: &mut [u8], src: &[u8])
+fn whole(dst: &mut [u8], src: &[u8])
     requires { ⌜ length (now src) ≤ length (now dst) ⌝ }
     ensures { λ _. ⌜ now (dst .exit) ≡ now (src .entry) ++ drop (length (now (src .entry))) (now (dst .entry)) ⌝ }
 {
@@ -88,4 +120,12 @@ pub fn copy(dst: &mut [u8], src: &[u8])
         return;
     }
     long(dst, src);
+}
+
+// `src` over the front of `dst`, as far as it fits; what lies past it stays.
+pub fn copy(dst: &mut [u8], src: &[u8])
+    ensures { λ _. ⌜ now (dst .exit) ≡ lay 0 (now (src .entry)) (now (dst .entry)) ⌝ }
+{
+    let n = smaller(src.len(), dst.len());
+    whole(dst, &src[0..n]);
 }

@@ -54,37 +54,35 @@ module _ (z : Sizes) (f : Reassembler → Reassembler) (h : ReceiveHandle) (b : 
   unfolding handled pick
   handled-bad e k = rw e (refl, stays z b k)
 
--- the slots that such a call stores are Ok
-module _ (B : ℕ) (s : Reassembler) (ok : SlotOk B s) where
-  pub restated-ok : (state : State) → issueNo state < 2 ^ 64 → SlotOk B (restated state s)
-  restated-ok state h = record {
-    dest = ok .dest;
-    source = ok .source;
-    tag = ok .tag;
-    typ = ok .typ;
-    seq = ok .seq;
-    len = ok .len;
-    wide = ok .wide;
-    counter = ok .counter;
-    clock = ok .clock;
-    value = ok .value;
-    issue = h;
-  }
+  -- the slot that is stored may be told beforehand
+  pub handled-at : {x : Reassembler} {r : Done} {b′ : List ℕ} → x ≡ f (slotAt (h .index) (stackOf z b)) → (r ≡ handled (λ _. x) h (stackOf z b) .said) × Becomes z b b′ (handled (λ _. x) h (stackOf z b) .stack) → Handled r b′
+  unfolding handled
+  handled-at e p = rw e at p
 
-  pub recookied-ok : (cookie : Cookie) → cookieValue cookie < 2 ^ 64 → SlotOk B (recookied cookie s)
-  recookied-ok cookie h = record {
-    dest = ok .dest;
-    source = ok .source;
-    tag = ok .tag;
-    typ = ok .typ;
-    seq = ok .seq;
-    len = ok .len;
-    wide = ok .wide;
-    counter = ok .counter;
-    clock = ok .clock;
-    value = h;
-    issue = ok .issue;
-  }
+-- a slot that has another state or another cookie is Ok
+abbrev changed : State → Cookie → Reassembler → Reassembler
+changed state cookie s = restated state (recookied cookie s)
+
+pub changed-ok : (B : ℕ) (s : Reassembler) → SlotOk B s → (state : State) (cookie : Cookie) → issueNo state < 2 ^ 64 → cookieValue cookie < 2 ^ 64 → SlotOk B (changed state cookie s)
+changed-ok B s ok state cookie n v = record {
+  dest = ok .dest;
+  source = ok .source;
+  tag = ok .tag;
+  typ = ok .typ;
+  seq = ok .seq;
+  len = ok .len;
+  wide = ok .wide;
+  counter = ok .counter;
+  clock = ok .clock;
+  value = v;
+  issue = n;
+}
+
+pub restated-ok : (B : ℕ) (s : Reassembler) → SlotOk B s → (state : State) → issueNo state < 2 ^ 64 → SlotOk B (restated state s)
+restated-ok B s ok state n = changed-ok B s ok state (s .cookie) n (ok .value)
+
+pub recookied-ok : (B : ℕ) (s : Reassembler) → SlotOk B s → (cookie : Cookie) → cookieValue cookie < 2 ^ 64 → SlotOk B (recookied cookie s)
+recookied-ok B s ok cookie v = changed-ok B s ok (s .state) cookie (ok .issue) v
 
 -- a handle that goes out: the slot, then the count
 module _ (z : Sizes) (b : List ℕ) (i : ℕ) where

@@ -1,17 +1,15 @@
 -- A send by its parts: what the tests leave, the flow, and the sequence.
-use Prim.Native.Nat.{ℕ, _≤_, _<_}
-use native.Mathlib.Omega.{arith}
+use Prim.Native.Nat.{ℕ, _≤_}
 use mathlib.Core.Path.{_≡_, refl, sym, ap, _∙_}
 use mathlib.Core.Bool.{false}
 use mathlib.Core.List.{List}
-use borrow.Author.Tests.{le-ltb, ltb-false}
+use borrow.Author.Tests.{le-ltb}
 use Rattle.octets.specs.Pick.{pick}
 use Rattle.mctp.specs.declared.Error.{Error}
 use Rattle.mctp.specs.declared.Error.the-variants.{InvalidInput}
 use Rattle.mctp.specs.declared.TagValue.{TagValue}
 use Rattle.mctp.specs.declared.Tag.{Tag}
 use Rattle.mctp.specs.declared.Tag.the-variants.{Owned, Unowned}
-use Rattle.mctp.specs.Terms.{tagOf}
 use Rattle.flows.specs.declared.Wish.{Wish}
 use Rattle.flows.specs.declared.Granted.the-variants.{Tag as Grant, Refused as Ungranted}
 use Rattle.flows.specs.Table.{Flowed, setFlow}
@@ -32,10 +30,6 @@ unfolding startSendOf pick
 start-as q t st h b e =
     rw (le-ltb 127 (q .typ .0) h)
     (ap (λ (u : SendTag). pick (badTag u) (unsent st (Refused InvalidInput)) (tagSend q u st)) e ∙ rw b)
-
--- a tag that is not bad is one of the eight
-pub tag-small : (t : SendTag) (g : Tag) → t ≡ Given g → badTag t ≡ false → tagOf g .0 < 8
-tag-small t g e f = let l = ltb-false 7 (tagOf g .0) (ap badTag (sym e) ∙ f) in omega arith
 
 pub given-unowned : (q : Send) (t : TagValue) (tag : Tag) (st : Stack) → tag ≡ Unowned t → givenSend q tag st ≡ sendUnder q tag st
 unfolding givenSend

@@ -1,4 +1,5 @@
--- Document 01, `new`, `set_eid`, `eid`, `is_local_dest`, `cancel_flow`, free tags.
+-- Document 01, "Stack": `new`, `set_eid`, `eid`, `is_local_dest`, `cancel_flow`, free tags.
+-- Each gives the answer and the next stack for every input; `NewMakes` gives the bytes of a new one.
 -- Leans on `mctp` for EIDs, on `tables` for a cancel's walk.
 use Prim.Native.Nat.{ℕ}
 use mathlib.Core.Path.{_≡_}

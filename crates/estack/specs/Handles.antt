@@ -1,4 +1,5 @@
--- Document 01, "Handles", fetch, finish, return, set cookie, and the deferred lookups. A handle is an index and an issue number.
+-- Document 01, "Handles", fetch, finish, return, set cookie, and the deferred lookups.
+-- A handle is an index and an issue number.
 -- Leans on `reassemble` for a slot's part.
 use Prim.Native.Nat.{ℕ, _+_, _*_}
 use mathlib.Core.Bool.{Bool, true, false}

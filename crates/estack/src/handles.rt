@@ -2,8 +2,9 @@
 ghost use mathlib.Core.Path.{_≡_};
 ghost use Prim.Native.Nat.{_+_, _≤_, _<_};
 ghost use lib.ListN.{length};
+ghost use Rattle.state.specs.Slot.{SlotOk};
 ghost use Rattle.state.specs.Stack.{Kept, Becomes, stackOf};
-ghost use Rattle.estack.specs.Handles.{isGood, finishOf, returnOf, cookieOf, fetchOf, takeOf, bySourceOf, byCookieOf};
+ghost use Rattle.estack.specs.Handles.{isGood, handled, finishOf, returnOf, cookieOf, fetchOf, takeOf, bySourceOf, byCookieOf};
 use crate::Deferred;
 use crate::Done;
 use crate::Fetched;
@@ -12,6 +13,7 @@ use mctp::Cookie;
 use mctp::Eid;
 use mctp::Error;
 use mctp::Tag;
+use reassemble::Reassembler;
 use receiving::ReceiveHandle;
 use state::Sizes;
 
@@ -56,18 +58,26 @@ pub fn fetch_message(state: &[u8], sizes: Sizes, pool: &[u8], handle: ReceiveHan
     Fetched::Refused(Error::BadArgument)
 }
 
+// A good handle's slot becomes `s`; otherwise BadArgument.
+fn keep(state: &mut [u8], sizes: Sizes, handle: ReceiveHandle, s: Reassembler) -> Done
+    requires { ⌜ Kept sizes (now state) × SlotOk (sizes .body) s ⌝ }
+    ensures { λ r. ⌜ (r ≡ handled (λ _. s) handle (stackOf sizes (now (state .entry))) .said) × Becomes sizes (now (state .entry)) (now (state .exit)) (handled (λ _. s) handle (stackOf sizes (now (state .entry))) .stack) ⌝ }
+{
+    let good = is_good(state, sizes, handle);
+    if good {
+        let i = handle.index;
+        state::put_slot(state, sizes, i, s);
+        return Done::Done;
+    }
+    Done::Refused(Error::BadArgument)
+}
+
 // The message is finished: its slot is empty.
 pub fn finished_receive(state: &mut [u8], sizes: Sizes, handle: ReceiveHandle) -> Done
     requires { ⌜ Kept sizes (now state) ⌝ }
     ensures { λ r. ⌜ (r ≡ finishOf handle (stackOf sizes (now (state .entry))) .said) × Becomes sizes (now (state .entry)) (now (state .exit)) (finishOf handle (stackOf sizes (now (state .entry))) .stack) ⌝ }
 {
-    let good = is_good(state, sizes, handle);
-    if good {
-        let i = handle.index;
-        state::put_slot(state, sizes, i, reassemble::blank());
-        return Done::Done;
-    }
-    Done::Refused(Error::BadArgument)
+    keep(state, sizes, handle, reassemble::blank())
 }
 
 // The handle comes back, and the message is kept.
@@ -75,14 +85,9 @@ pub fn return_handle(state: &mut [u8], sizes: Sizes, handle: ReceiveHandle) -> D
     requires { ⌜ Kept sizes (now state) ⌝ }
     ensures { λ r. ⌜ (r ≡ returnOf handle (stackOf sizes (now (state .entry))) .said) × Becomes sizes (now (state .entry)) (now (state .exit)) (returnOf handle (stackOf sizes (now (state .entry))) .stack) ⌝ }
 {
-    let good = is_good(state, sizes, handle);
-    if good {
-        let i = handle.index;
-        let s = state::slot_at(state, sizes, i);
-        state::put_slot(state, sizes, i, s.return_handle());
-        return Done::Done;
-    }
-    Done::Refused(Error::BadArgument)
+    let i = handle.index;
+    let s = state::slot_at(state, sizes, i);
+    keep(state, sizes, handle, s.return_handle())
 }
 
 // That slot has another cookie.
@@ -90,14 +95,9 @@ pub fn set_cookie(state: &mut [u8], sizes: Sizes, handle: ReceiveHandle, cookie:
     requires { ⌜ Kept sizes (now state) ⌝ }
     ensures { λ r. ⌜ (r ≡ cookieOf handle cookie (stackOf sizes (now (state .entry))) .said) × Becomes sizes (now (state .entry)) (now (state .exit)) (cookieOf handle cookie (stackOf sizes (now (state .entry))) .stack) ⌝ }
 {
-    let good = is_good(state, sizes, handle);
-    if good {
-        let i = handle.index;
-        let s = state::slot_at(state, sizes, i);
-        state::put_slot(state, sizes, i, s.set_cookie(cookie));
-        return Done::Done;
-    }
-    Done::Refused(Error::BadArgument)
+    let i = handle.index;
+    let s = state::slot_at(state, sizes, i);
+    keep(state, sizes, handle, s.set_cookie(cookie))
 }
 
 // The handle of slot i goes out, where there is a slot i.

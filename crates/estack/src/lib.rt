@@ -1,5 +1,6 @@
 // The stack: every public call of document 01, over a state kept in lent bytes, after the Rust's `Stack` in src/lib.rs.
-// Leans on `state` for the layout, on `tables` for walks, on `receiving` for receive, on `fragment` for cutting. Definitions: specs/.
+// basics.rt has `new`, EIDs, cancel and free tags; sends.rt `start_send`; updates.rt the clock; handles.rt what is done under a handle. Definitions: specs/.
+// Leans on `state` for the layout, on `tables` for walks, on `receiving` for receive, on `fragment` for cutting.
 mod basics;
 mod handles;
 mod sends;

@@ -1,9 +1,7 @@
 // Starting a send: type and tag, the flow, the sequence, the MTU, in this order.
 ghost use mathlib.Core.Path.{_≡_};
-ghost use Prim.Native.Nat.{_<_, min};
-ghost use Rattle.mctp.specs.Terms.{tagOf};
+ghost use Prim.Native.Nat.{min};
 ghost use Rattle.state.specs.Stack.{Kept, Becomes, stackOf};
-ghost use Rattle.tables.specs.Walks.{WishOk};
 ghost use Rattle.estack.specs.Sends.{badTag, mtuOf, sendUnder, ownedSend, givenSend, startSendOf};
 use crate::Send;
 use crate::SendMtu;
@@ -16,21 +14,12 @@ use mctp::Error;
 use mctp::Tag;
 use state::Sizes;
 
-fn smaller(a: usize, b: usize) -> usize
-    ensures { λ r. ⌜ r ≡ min a b ⌝ }
-{
-    if a < b {
-        return a;
-    }
-    b
-}
-
 fn mtu_for(mtu: SendMtu, own: usize) -> usize
     ensures { λ r. ⌜ r ≡ mtuOf mtu own ⌝ }
 {
     match mtu {
         SendMtu::Own => own,
-        SendMtu::AtMost(n) => smaller(own, n),
+        SendMtu::AtMost(n) => octets::smaller(own, n),
     }
 }
 
@@ -68,7 +57,7 @@ fn send_under(state: &mut [u8], sizes: Sizes, send: Send, tag: Tag) -> Started
 
 // Under a tag of our own: the flow first.
 fn owned_send(state: &mut [u8], sizes: Sizes, send: Send, wish: Wish) -> Started
-    requires { ⌜ Kept sizes (now state) × WishOk wish ⌝ }
+    requires { ⌜ Kept sizes (now state) ⌝ }
     ensures { λ r. ⌜ (r ≡ ownedSend send wish (stackOf sizes (now (state .entry))) .said) × Becomes sizes (now (state .entry)) (now (state .exit)) (ownedSend send wish (stackOf sizes (now (state .entry))) .stack) ⌝ }
 {
     let cookie = send.cookie;
@@ -80,7 +69,7 @@ fn owned_send(state: &mut [u8], sizes: Sizes, send: Send, wish: Wish) -> Started
 }
 
 fn given_send(state: &mut [u8], sizes: Sizes, send: Send, tag: Tag) -> Started
-    requires { ⌜ Kept sizes (now state) × (tagOf tag .0 < 8) ⌝ }
+    requires { ⌜ Kept sizes (now state) ⌝ }
     ensures { λ r. ⌜ (r ≡ givenSend send tag (stackOf sizes (now (state .entry))) .said) × Becomes sizes (now (state .entry)) (now (state .exit)) (givenSend send tag (stackOf sizes (now (state .entry))) .stack) ⌝ }
 {
     match tag {

@@ -1,5 +1,6 @@
-// Runs every figure of document 01, 'Figures from the bay', on the compiled exported calls, and writes a line for each. What it must write
-// stands in `stdout`, taken from the document. Leans on `bay`, which says what a row holds: text, `>` a send, `<` a packet received, `@` the clock.
+// Runs every figure of document 01, 'Figures from the bay', on the compiled exported calls, and writes a line for each.
+// What it must write stands in `stdout`, taken from the document.
+// Leans on `bay`, which says what a row holds: text, `>` a send, `<` a packet received, `@` the clock.
 use bay::figure;
 
 fn sends() {

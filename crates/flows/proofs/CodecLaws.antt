@@ -11,7 +11,7 @@ use Rattle.octets.proofs.Region.{Lawful}
 use Rattle.mctp.specs.declared.Eid.{Eid}
 use Rattle.mctp.specs.declared.TagValue.{TagValue}
 use Rattle.mctp.specs.Header.{bit}
-use Rattle.mctp.specs.Terms.{cookieNo, cookieValue, cookieOf}
+use Rattle.mctp.specs.Terms.{cookieNo, cookieValue}
 use Rattle.mctp.proofs.CookieLaws.{cookie-back, cookie-small}
 use Rattle.flows.specs.declared.Expiry.{Expiry}
 use Rattle.flows.specs.declared.Expiry.the-variants.{Never, From}

@@ -9,7 +9,7 @@ use Rattle.octets.specs.Pick.{pick}
 use Rattle.octets.specs.Find.{find}
 use Rattle.mctp.specs.declared.Cookie.{Cookie}
 use Rattle.mctp.specs.declared.Cookie.the-variants.{Absent, Given}
-use Rattle.mctp.specs.declared.Error.the-variants.{BadArgument, TagUnavailable}
+use Rattle.mctp.specs.declared.Error.the-variants.{InvalidInput, BadArgument, TagUnavailable}
 use Rattle.stamp.specs.Stamp.{next}
 use Rattle.flows.specs.declared.Wish.{Wish}
 use Rattle.flows.specs.declared.Wish.the-variants.{Fresh, Fixed}
@@ -75,6 +75,18 @@ full-table = refl
 pub full-events : left (fresh 9 ∷ fresh 9 ∷ []) (places 1) .now .counter ≡ 2
 unfolding left setFlow freshFlow withTag insertFlow newFlow isFlow freeTagOf bitsOf find pick next
 full-events = refl
+
+-- a fixed tag above 7 is refused, with nothing changed
+abbrev pub eight : Ask
+eight = record { peer = 9; wish = Fixed (record { 0 = 8 }); expires = true; cookie = Absent }
+
+pub fixed-high : grants (eight ∷ []) (places 64) ≡ Refused InvalidInput ∷ []
+unfolding grants setFlow pick
+fixed-high = refl
+
+pub high-stays : left (eight ∷ []) (places 64) ≡ places 64
+unfolding left setFlow pick
+high-stays = refl
 
 -- a fixed tag that stands with an expiry is refused
 pub fixed-expiry : grants (three true 7 ∷ three true 8 ∷ []) (places 64) ≡ tag 3 ∷ Refused BadArgument ∷ []

@@ -2,7 +2,7 @@
 -- for no other. Each follows from what a store or a map makes of a list.
 use Prim.Native.Nat.{ℕ, _^_, _≤_, _<_}
 use native.Mathlib.Omega.{arith}
-use mathlib.Core.Path.{_≡_, refl, sym, ap, _∙_}
+use mathlib.Core.Path.{_≡_, refl, sym, ap, subst, _∙_}
 use mathlib.Core.Bool.{Bool, true, false}
 use mathlib.Core.Logic.{⊎-elim}
 use mathlib.Core.List.{List, map}
@@ -284,11 +284,6 @@ module _ (peer : Eid) (tag : TagValue) (expires : Bool) (cookie : Cookie) (t : T
 
 -- ---- what a send makes of the table
 
--- a fixed tag is one
-abbrev pub WishOk : Wish → Type 0
-WishOk Fresh = Unit
-WishOk (Fixed tag) = tag .0 < 8
-
 module _ (peer : Eid) (expires : Bool) (cookie : Cookie) (t : Table) where
   -- the table with another counter
   abbrev with : ℕ → Table
@@ -304,21 +299,28 @@ module _ (peer : Eid) (expires : Bool) (cookie : Cookie) (t : Table) where
   fresh P same ins n start (Free tag) told = ins tag n (told .below) (sym (used-is peer (tag .0) (t .flows) (told .below)) ∙ told .clear)
   fresh P same ins n start NoneFree told = same
 
+  -- a fixed tag that stands leaves the table as it is: its flow keeps its first cookie
+  pub fixed-stands : (tag : TagValue) → standing peer tag (t .flows) ≡ true → fixedFlow peer tag expires cookie t .table ≡ t
+  unfolding fixedFlow pick
+  fixed-stands tag y = bool-cases (lasts (getD (t .flows) (flowPlace peer tag (t .flows)) noFlow)) (λ l. rw (y, l)) (λ l. rw (y, l))
+
   fixed : (P : List Flow → Type 0) (tag : TagValue) → P (t .flows) → (standing peer tag (t .flows) ≡ false → P (inserted tag (t .counter)))
       → P (fixedFlow peer tag expires cookie t .table .flows)
   unfolding fixedFlow
   fixed P tag same ins =
-      pick-cases (λ (r : Flowed). P (r .table .flows)) (λ _. pick-cases (λ (r : Flowed). P (r .table .flows)) (λ _. same) (λ _. same)) ins
+      bool-cases (standing peer tag (t .flows)) (λ y. subst (λ (u : Table). P (u .flows)) (sym (fixed-stands tag y)) same)
+      (λ n. subst (λ (r : Flowed). P (r .table .flows)) (sym (pick-false _ _ _ n)) (ins n))
 
   -- by cases: the flows stay, or a tag that does not stand is inserted
   pub by-insert : (P : List Flow → Type 0) (wish : Wish) → P (t .flows)
-      → ((tag : TagValue) (n : ℕ) → (WishOk wish → tag .0 < 8) → standing peer tag (t .flows) ≡ false → P (inserted tag n))
+      → ((tag : TagValue) (n : ℕ) → tag .0 < 8 → standing peer tag (t .flows) ≡ false → P (inserted tag n))
       → P (setFlow peer wish expires cookie t .table .flows)
   unfolding setFlow freshFlow
   by-insert P Fresh same ins =
       let start = turned t .counter in
-      fresh P same (λ tag n b. ins tag n (λ _. b)) start start (freeTagOf (usedTags peer (t .flows)) start) (searched (usedTags peer (t .flows)) start)
-  by-insert P (Fixed tag) same ins = fixed P tag same (ins tag (t .counter) (λ b. b))
+      fresh P same ins start start (freeTagOf (usedTags peer (t .flows)) start) (searched (usedTags peer (t .flows)) start)
+  by-insert P (Fixed tag) same ins =
+      pick-cases (λ (r : Flowed). P (r .table .flows)) (λ _. same) (λ n. fixed P tag same (ins tag (t .counter) (omega (arith, ltb-false))))
 
   -- the number of places stays
   pub set-flow-length : (wish : Wish) → length (setFlow peer wish expires cookie t .table .flows) ≡ length (t .flows)
@@ -327,10 +329,10 @@ module _ (peer : Eid) (expires : Bool) (cookie : Cookie) (t : Table) where
   pub set-flow-unique : (wish : Wish) → Unique (t .flows) → Unique (setFlow peer wish expires cookie t .table .flows)
   set-flow-unique wish unique = by-insert Unique wish unique (λ tag n _ free. insert-unique peer tag expires cookie (with n) free unique)
 
-  pub set-flow-ok : (wish : Wish) → AllOk (t .flows) → WishOk wish → peer .0 < 256 → cookieValue cookie < 2 ^ 64 → t .now .clock < 2 ^ 64
+  pub set-flow-ok : (wish : Wish) → AllOk (t .flows) → peer .0 < 256 → cookieValue cookie < 2 ^ 64 → t .now .clock < 2 ^ 64
       → t .now .counter < 2 ^ 32 → AllOk (setFlow peer wish expires cookie t .table .flows)
-  set-flow-ok wish all w p v c k =
-      by-insert AllOk wish all (λ tag n b _. insert-ok peer tag expires cookie (with n) all p (b w) v c k)
+  set-flow-ok wish all p v c k =
+      by-insert AllOk wish all (λ tag n b _. insert-ok peer tag expires cookie (with n) all p b v c k)
 
 -- ---- time
 

@@ -1,4 +1,5 @@
 -- A flow in 32 bytes: used, peer and tag first, so that one number of 4 bytes tells whose a place is.
+-- `FlowOk` are the ranges that a flow's fields always have.
 -- Leans on `octets` for rows of numbers.
 use Prim.Native.Nat.{ℕ, _+_, _*_, _^_, _<_}
 use mathlib.Core.List.{List, [], _∷_}

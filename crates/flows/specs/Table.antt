@@ -1,9 +1,10 @@
--- Document 01, "Flows": the table as a list of places, keyed by peer and tag, and what a send, a removal and a check of time make of it.
+-- Document 01, "Flows": the table as a list of places, keyed by peer and tag.
+-- What a send, a removal and a check of time make of it.
 -- Leans on `find`, on `stamp` for events, on specs/Tags.antt for the search of a free tag.
 use Prim.Native.Nat.{ℕ, _+_, _%_}
 use mathlib.Core.Path.{_≡_}
 use mathlib.Core.Bool.{Bool, true, false, not}
-use mathlib.Core.List.{List, [], _∷_, map}
+use mathlib.Core.List.{List}
 use lib.Dec.{ltb}
 use lib.ListN.{length, getD, set}
 use Rattle.octets.specs.Pick.{pick}
@@ -12,7 +13,7 @@ use Rattle.mctp.specs.declared.Eid.{Eid}
 use Rattle.mctp.specs.declared.TagValue.{TagValue}
 use Rattle.mctp.specs.declared.Cookie.{Cookie}
 use Rattle.mctp.specs.declared.Cookie.the-variants.{Absent}
-use Rattle.mctp.specs.declared.Error.the-variants.{BadArgument, TagUnavailable}
+use Rattle.mctp.specs.declared.Error.the-variants.{InvalidInput, BadArgument, TagUnavailable}
 use Rattle.mctp.specs.Terms.{sameEid, sameTag}
 use Rattle.stamp.specs.declared.EventStamp.{EventStamp}
 use Rattle.stamp.specs.declared.Timeout.{Timeout}
@@ -131,9 +132,11 @@ fixedFlow peer tag expires cookie t =
     (record { table = t; granted = Refused BadArgument }))
     (insertFlow peer tag expires cookie t)
 
+-- a tag above 7 is InvalidInput, with nothing changed
 unfoldable pub setFlow : Eid → Wish → Bool → Cookie → Table → Flowed
 setFlow peer Fresh expires cookie t = freshFlow peer expires cookie t
-setFlow peer (Fixed tag) expires cookie t = fixedFlow peer tag expires cookie t
+setFlow peer (Fixed tag) expires cookie t =
+    pick (ltb 7 (tag .0)) (record { table = t; granted = Refused InvalidInput }) (fixedFlow peer tag expires cookie t)
 
 -- time runs for a flow that has a stamp
 abbrev pub timeBy : ℕ → Expiry → Timeout

@@ -1,7 +1,8 @@
--- Tags as bits of a byte, and the search for a free one. Its promise says what it finds, not how.
+-- Tags as bits of a byte, and the search for a free one.
+-- The search's promise says what it finds, not how.
 -- Leans on `find`.
 use Prim.Native.Nat.{ℕ, zero, suc, _+_, _-_, _*_, _/_, _%_, _^_}
-use mathlib.Core.Bool.{Bool, true, false, not}
+use mathlib.Core.Bool.{Bool, not}
 use mathlib.Core.List.{List, [], _∷_}
 use lib.Dec.{ltb, eqb}
 use lib.Count.{ones}

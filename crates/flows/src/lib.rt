@@ -2,12 +2,11 @@
 // codec to a block of 32 bytes; the table itself lies in the state's bytes.
 // Leans on `mctp` for EIDs, tags and cookies, on `stamp` for time, on `octets` for bytes. Definitions: specs/Table.antt, Tags.antt, Codec.antt.
 ghost use mathlib.Core.Path.{_≡_};
-ghost use Prim.Native.Nat.{_+_, _*_, _^_, _<_, _≤_};
-ghost use lib.ListN.{length};
-ghost use Rattle.octets.specs.Bytes.{puts};
+ghost use Prim.Native.Nat.{_<_};
+ghost use Rattle.octets.specs.Bytes.{lay, puts};
 ghost use Rattle.flows.specs.Tags.{marked};
 ghost use Rattle.flows.specs.Table.{noFlow, isFlow, lasts, newFlow, flowTimeout};
-ghost use Rattle.flows.specs.Codec.{expiryNo, expiryStamp, expiryOf, flowOf, flowBytes, flowRow, flowWidth, FlowOk};
+ghost use Rattle.flows.specs.Codec.{expiryNo, expiryStamp, expiryOf, flowOf, flowBytes, flowRow, FlowOk};
 use mctp::Cookie;
 use mctp::Eid;
 use mctp::Error;
@@ -130,7 +129,7 @@ impl Flow {
 
     // The used-tag byte of a peer with this flow's tag in it.
     pub fn mark(self, peer: Eid, used: u8) -> u8
-        requires { ⌜ self .tag .0 < 8 ⌝ }
+        requires { ⌜ FlowOk self ⌝ }
         ensures { λ r. ⌜ r ≡ marked peer self used ⌝ }
     {
         if self.used {
@@ -145,7 +144,7 @@ impl Flow {
 
 // ---- a flow in 32 bytes
 
-pub fn expiry_no(e: Expiry) -> u8
+fn expiry_no(e: Expiry) -> u8
     ensures { λ r. ⌜ (r ≡ expiryNo e) × (r < 2) ⌝ }
 {
     match e {
@@ -154,7 +153,7 @@ pub fn expiry_no(e: Expiry) -> u8
     }
 }
 
-pub fn expiry_stamp(e: Expiry) -> EventStamp
+fn expiry_stamp(e: Expiry) -> EventStamp
     ensures { λ r. ⌜ r ≡ expiryStamp e ⌝ }
 {
     match e {
@@ -166,7 +165,7 @@ pub fn expiry_stamp(e: Expiry) -> EventStamp
     }
 }
 
-pub fn expiry_of(n: u8, clock: u64, counter: u32) -> Expiry
+fn expiry_of(n: u8, clock: u64, counter: u32) -> Expiry
     ensures { λ r. ⌜ r ≡ expiryOf n clock counter ⌝ }
 {
     if n == 1 {
@@ -179,8 +178,8 @@ pub fn expiry_of(n: u8, clock: u64, counter: u32) -> Expiry
     Expiry::Never
 }
 
+// The flow that `b` starts with; a byte past its end counts as 0.
 pub fn read_flow(b: &[u8]) -> Flow
-    requires { ⌜ flowWidth ≤ length (now b) ⌝ }
     ensures { λ r. ⌜ r ≡ flowOf (now (b .entry)) ⌝ }
 {
     let used = get1(b, 0);
@@ -213,7 +212,6 @@ fn write_fields(
     clock: u64,
     counter: u32,
 )
-    requires { ⌜ length (now b) ≡ flowWidth ⌝ }
     ensures { λ _. ⌜ now (b .exit) ≡ puts 0 (flowRow used peer tag has kind value clock counter) (now (b .entry)) ⌝ }
 {
     put1(b, 0, used);
@@ -226,9 +224,9 @@ fn write_fields(
     put8(b, 24, counter as u64);
 }
 
+// The flow's bytes over the front of `b`, as far as they fit.
 pub fn write_flow(b: &mut [u8], f: Flow)
-    requires { ⌜ length (now b) ≡ flowWidth ⌝ }
-    ensures { λ _. ⌜ now (b .exit) ≡ flowBytes f ⌝ }
+    ensures { λ _. ⌜ now (b .exit) ≡ lay 0 (flowBytes f) (now (b .entry)) ⌝ }
 {
     let c = f.cookie;
     let e = f.expiry;

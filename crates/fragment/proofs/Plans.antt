@@ -5,19 +5,20 @@ use mathlib.Core.Path.{_≡_, refl, sym, ap, subst, _∙_}
 use mathlib.Core.Bool.{Bool, true, false}
 use mathlib.Core.List.{List, [], _∷_, _++_}
 use lib.ListN.{length}
-use lib.Dec.{eqb, ltb}
+use lib.Dec.{eqb}
 use Rattle.octets.specs.Pick.{pick, pick-true, pick-false}
 use Rattle.octets.specs.Bytes.{part}
 use Rattle.octets.proofs.Tests.{picks}
 use Rattle.octets.proofs.Bools.{no-both}
 use Rattle.mctp.specs.declared.Header.{Header}
+use Rattle.mctp.specs.declared.Error.{Error}
 use Rattle.mctp.specs.declared.Error.the-variants.{InvalidInput, NoSpace}
 use Rattle.mctp.specs.Header.{headerBytes, lead, intro, typeByte}
 use Rattle.fragment.specs.declared.Fragmenter.{Fragmenter}
 use Rattle.fragment.specs.declared.Plan.{Plan}
 use Rattle.fragment.specs.declared.SendOutput.{SendOutput}
 use Rattle.fragment.specs.declared.SendOutput.the-variants.{Packet, Complete, Error as Failed}
-use Rattle.fragment.specs.Step.{Step, stepOf, advancedBy, headOf, fitting, stillOf, emitOf, planOf, writtenBy, Writable}
+use Rattle.fragment.specs.Step.{Step, stepOf, refused, emitted, advancedBy, headOf, fitting, stillOf, emitOf, planOf, writtenBy, Writable}
 
 still-fits : (f : Fragmenter) (o : SendOutput) (size n : ℕ) → Writable (stillOf f o) size n
 still-fits f o size n = record { within = λ e. absurd (no-both e refl); room = λ e. absurd (no-both e refl) }
@@ -75,22 +76,27 @@ abbrev pub carried : List ℕ → Plan → Step
 carried payload p = record { result = record { next = p .next; output = p .output }; bytes = writtenBy p payload }
 
 module _ {A B : Type 0} (g : A → B) where
-  either : (b : Bool) (x y : A) → g (pick b x y) ≡ pick b (g x) (g y)
+  either : (b : Bool) {x y : A} {u v : B} → g x ≡ u → g y ≡ v → g (pick b x y) ≡ pick b u v
   unfolding pick
-  either true x y = refl
-  either false x y = refl
+  either true p q = p
+  either false p q = q
 
--- the step is its plan, carried out
-pub step-planned : (f : Fragmenter) (payload : List ℕ) (n : ℕ) → carried payload (planOf f (length payload) n) ≡ stepOf f payload n
-unfolding stepOf planOf writtenBy pick
-step-planned f payload n =
-    let g = carried payload in
-    let size = length payload in
-    let small = ltb n (lead (f .first)) in
-    let short = ltb size (f .«payload_used») in
-    let s = stillOf f (Failed InvalidInput (f .cookie)) in
-    let t = stillOf f (Failed NoSpace (f .cookie)) in
-    let e = emitOf f size n in
-    either g (f .done) (stillOf f (Complete (f .tag) (f .cookie))) (pick small t (pick short s e))
-    ∙ ap (pick (f .done) (g (stillOf f (Complete (f .tag) (f .cookie)))))
-    (either g small t (pick short s e) ∙ ap (pick small (g t)) (either g short s e))
+module _ (f : Fragmenter) (payload : List ℕ) where
+  -- a plan that writes nothing
+  still-carried : (o : SendOutput) → carried payload (stillOf f o) ≡ record { result = record { next = f; output = o }; bytes = [] }
+  still-carried o = ap (λ (b : List ℕ). record { result = record { next = f; output = o }; bytes = b }) (writes-none (stillOf f o) payload refl)
+
+  -- a refused step writes nothing
+  refused-carried : (e : Error) → carried payload (stillOf f (Failed e (f .cookie))) ≡ refused f e
+  refused-carried e = still-carried (Failed e (f .cookie))
+
+  emit-carried : (n : ℕ) → carried payload (emitOf f (length payload) n) ≡ emitted f payload n
+  unfolding writtenBy pick
+  emit-carried n = refl
+
+  -- the step is its plan, carried out
+  pub step-planned : (n : ℕ) {p : Plan} → p ≡ planOf f (length payload) n → carried payload p ≡ stepOf f payload n
+  unfolding stepOf planOf
+  step-planned n is =
+      let g = carried payload in
+      ap g is ∙ either g _ (still-carried _) (either g _ (refused-carried NoSpace) (either g _ (refused-carried InvalidInput) (emit-carried n)))

@@ -1,4 +1,5 @@
--- A run of steps, the payload lent at every step, with packet buffers of any sizes: what it writes, and the fragmenter after it.
+-- A run of steps, the payload lent at every step, with packet buffers of any sizes.
+-- What it writes, and the fragmenter after it.
 -- Leans on specs/Step.antt.
 use Prim.Native.Nat.{ℕ, _+_, _-_, _/_}
 use mathlib.Core.Bool.{Bool}

@@ -1,5 +1,6 @@
 -- Document 01, "Fragmenter": one step, in its order, and the bytes that it writes.
--- Leans on `mctp` for the header's bytes. A later step with room 4 emits a header alone: `emitted` says so in one place, by asking nothing of the room.
+-- A later step with room 4 emits a header alone: `emitted` says so in one place, by asking nothing of the room.
+-- Leans on `mctp` for the header's bytes.
 use Prim.Native.Nat.{ℕ, _+_, _-_, _*_, _%_, _≤_, _<_, min}
 use mathlib.Core.Bool.{Bool, true, false}
 use mathlib.Core.Path.{_≡_}

@@ -16,6 +16,7 @@ use mctp::Key;
 use mctp::MsgIC;
 use mctp::MsgType;
 use mctp::Tag;
+use octets::smaller;
 
 pub const MAX_MTU: usize = 255;
 
@@ -63,16 +64,6 @@ pub enum Started {
     Refused(Error),
 }
 
-// The smaller of two.
-fn smaller(a: usize, b: usize) -> usize
-    ensures { λ r. ⌜ r ≡ min a b ⌝ }
-{
-    if a < b {
-        return a;
-    }
-    b
-}
-
 // What is left of `a` past `b`.
 fn beyond(a: usize, b: usize) -> usize
     ensures { λ r. ⌜ r ≡ a - b ⌝ }
@@ -88,8 +79,8 @@ fn write_first(out: &mut [u8], h: Header, kind: u8, payload: &[u8], used: usize,
     requires { ⌜ (5 + n ≤ length (now out)) × (used + n ≤ length (now payload)) ⌝ }
     ensures { λ _. ⌜ now (out .exit) ≡ over 0 (headerBytes h ++ (kind ∷ part used n (now (payload .entry)))) (now (out .entry)) ⌝ }
 {
-    mctp::write_header(out, h);
-    octets::put1(out, 4, kind);
+    octets::put4(&mut out[0..4], 0, mctp::encode_header(h));
+    out[4] = kind;
     let end = used + n;
     copying::copy(&mut out[5..], &payload[used..end]);
 }
@@ -99,13 +90,13 @@ fn write_later(out: &mut [u8], h: Header, payload: &[u8], used: usize, n: usize)
     requires { ⌜ (4 + n ≤ length (now out)) × (used + n ≤ length (now payload)) ⌝ }
     ensures { λ _. ⌜ now (out .exit) ≡ over 0 (headerBytes h ++ part used n (now (payload .entry))) (now (out .entry)) ⌝ }
 {
-    mctp::write_header(out, h);
+    octets::put4(&mut out[0..4], 0, mctp::encode_header(h));
     let end = used + n;
     copying::copy(&mut out[4..], &payload[used..end]);
 }
 
 // Writes a plan's packet over the front of the buffer.
-pub fn write(plan: Plan, payload: &[u8], out: &mut [u8])
+fn write_plan(plan: Plan, payload: &[u8], out: &mut [u8])
     requires { ⌜ Writable plan (length (now payload)) (length (now out)) ⌝ }
     ensures { λ _. ⌜ now (out .exit) ≡ over 0 (writtenBy plan (now (payload .entry))) (now (out .entry)) ⌝ }
 {
@@ -300,6 +291,14 @@ impl Fragmenter {
         self.emit(size, room)
     }
 
+    // Writes what one step writes: its packet over the front of the buffer. A refused or finished step writes nothing.
+    pub fn write(self, payload: &[u8], out: &mut [u8])
+        ensures { λ _. ⌜ now (out .exit) ≡ over 0 (stepOf self (now (payload .entry)) (length (now (out .entry))) .bytes) (now (out .entry)) ⌝ }
+    {
+        let plan = self.plan(payload.len(), out.len());
+        write_plan(plan, payload, out);
+    }
+
     // One step. The same payload is lent at every step.
     pub fn step(self, payload: &[u8], out: &mut [u8]) -> Fragmented
         ensures answer { λ r. ⌜ r ≡ stepOf self (now (payload .entry)) (length (now (out .entry))) .result ⌝ }
@@ -308,7 +307,7 @@ impl Fragmenter {
         let plan = self.plan(payload.len(), out.len());
         let next = plan.next;
         let output = plan.output;
-        write(plan, payload, out);
+        write_plan(plan, payload, out);
         Fragmented {
             next: next,
             output: output,

@@ -1,4 +1,4 @@
--- A header and a type byte that were written are read back, since each field stands at its own bits.
+-- A header and a type byte that were encoded are read back, since each field stands at its own bits.
 use Prim.Native.Nat.{ℕ, zero, suc, _+_, _*_, _/_, _%_, _≤_, _<_}
 use native.Mathlib.Nat.{mul-add-div, mul-add-mod-self-left, div-eq-of-lt, mod-eq-of-lt, add-zero}
 use native.Mathlib.Omega.{arith}
@@ -114,7 +114,7 @@ flags-back d s f h =
       eom-digit f,
     ) (som-digit f)
 
--- writing what was read gives the bytes back, the reserved bits of byte 0 aside
+-- encoding what was read gives the bytes back, the reserved bits of byte 0 aside
 pub write-back : (d s f : ℕ) → f < 256 → headerBytes (fieldsOf d s f) ≡ 1 ∷ d ∷ s ∷ f ∷ []
 write-back d s f h = ap (λ (x : ℕ). 1 ∷ d ∷ s ∷ x ∷ []) (flags-back d s f h)
 

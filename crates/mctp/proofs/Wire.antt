@@ -1,9 +1,8 @@
--- A header stored as one number is its four bytes.
+-- The number of a header has its four bytes.
 use Prim.Native.Nat.{ℕ, _+_, _*_, _<_}
 use native.Mathlib.Omega.{arith}
-use mathlib.Core.Path.{_≡_, refl}
-use mathlib.Core.List.{List, [], _∷_}
-use lib.ListN.{length}
+use mathlib.Core.Path.{_≡_}
+use mathlib.Core.List.{[], _∷_}
 use Rattle.octets.specs.Bytes.{le, num}
 use Rattle.octets.proofs.Number.{le-num, Bytes}
 

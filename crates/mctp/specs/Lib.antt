@@ -1,2 +1,5 @@
+-- The definitions that the contracts of `mctp` cite.
+-- Terms: EIDs, tags, keys, the refusals' numbers. Header: the packet on the wire.
+-- Leans on `octets` for `pick` and numbers in bytes.
 pub mod Terms
 pub mod Header

@@ -1,9 +1,9 @@
 // What stands on the wire: endpoint IDs, tags, types, cookies, the refusals, and the packet header of DSP0236.
-// Types that can't be mixed, after the crate `mctp`; the header after `libmctp`. Leans on `octets` for `pick` alone.
+// Types that can't be mixed, after the crate `mctp`; the header after `libmctp`. Definitions: specs/Terms.antt, Header.antt.
+// Leans on `octets` for `pick` alone.
 ghost use mathlib.Core.Path.{_≡_};
 ghost use Prim.Native.Nat.{_≤_, _<_};
-ghost use lib.ListN.{length};
-ghost use Rattle.octets.specs.Bytes.{over};
+ghost use Rattle.octets.specs.Bytes.{le};
 ghost use Rattle.mctp.specs.Terms.{normalEid, errorNo, tagOf, isOwner, tagUnder, sameKey, sameBool, cookieNo, cookieValue, cookieOf};
 ghost use Rattle.mctp.specs.Header.{headerOf, headerBytes, bit, typeByte, typeOf, lead, flagsOf};
 
@@ -237,21 +237,6 @@ pub fn flags(h: Header) -> u8
     som + (eom + (h.seq % 4 * 16 + (owner + h.key.tag.0 % 8)))
 }
 
-// Writes the header over the first four bytes, in one store.
-pub fn write_header(out: &mut [u8], h: Header)
-    requires { ⌜ 4 ≤ length (now out) ⌝ }
-    ensures { λ _. ⌜ now (out .exit) ≡ over 0 (headerBytes h) (now (out .entry)) ⌝ }
-{
-    let b = flags(h);
-    let dest = h.key.dest.0;
-    let source = h.key.source.0;
-    octets::put4(
-        out,
-        0,
-        1 + 256 * (dest as u32 + 256 * (source as u32 + 256 * (b as u32))),
-    );
-}
-
 // Where the body starts: past the type byte with SOM.
 pub fn body_start(som: bool) -> usize
     ensures { λ r. ⌜ r ≡ lead som ⌝ }
@@ -260,6 +245,16 @@ pub fn body_start(som: bool) -> usize
         return 5;
     }
     4
+}
+
+// The four bytes of a header as one number, byte 0 lowest.
+pub fn encode_header(h: Header) -> u32
+    ensures { λ r. ⌜ le 4 r ≡ headerBytes h ⌝ }
+{
+    let b = flags(h);
+    let dest = h.key.dest.0;
+    let source = h.key.source.0;
+    1 + 256 * (dest as u32 + 256 * (source as u32 + 256 * (b as u32)))
 }
 
 pub fn encode_type_ic(typ: MsgType, ic: MsgIC) -> u8

@@ -1,5 +1,6 @@
 // A handed-out message: a record that borrows its body from the pool, after the Rust's MctpMessage.
-// Leans on `estack` for the facts of a message, by value, and on `copying` for the copying leaf. Definitions: specs/Message.antt.
+// `lend_message` makes it; `lend_body` and `copy_body` stand beside it for callers with plain parameters. Definitions: specs/Message.antt.
+// Leans on `estack` for the facts of a message, by value, and on `copying` for the copying leaf.
 ghost use mathlib.Core.Path.{_≡_};
 ghost use lib.ListN.{length};
 ghost use Rattle.octets.specs.Bytes.{over, part};
@@ -68,7 +69,7 @@ pub fn copy_body(pool: &[u8], facts: Message, out: &mut [u8]) -> usize
     ensures bytes { λ _. ⌜ now (out .exit) ≡ over 0 (frontOf facts (now (pool .entry)) (length (now (out .entry)))) (now (out .entry)) ⌝ }
 {
     let body = lend_body(pool, facts);
-    let front = stretch(body, 0, out.len());
-    copying::copy(out, front);
-    front.len()
+    let n = octets::smaller(out.len(), body.len());
+    copying::copy(out, body);
+    n
 }

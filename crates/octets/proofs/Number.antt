@@ -1,14 +1,17 @@
 -- Laws of `le` and `num`: each undoes the other, and two numbers side by side are one of twice the width.
-use Prim.Native.Nat.{ℕ, zero, suc, _+_, _*_, _/_, _%_, _≤_, _<_}
+use Prim.Native.Nat.{ℕ, zero, suc, _+_, _-_, _*_, _/_, _%_, _≤_, _<_}
 use native.Mathlib.Nat.{add-comm, mul-comm, mul-add, mul-assoc, mod-lt, div-add-mod}
 use native.Mathlib.Omega.{arith}
 use mathlib.Core.Path.{_≡_, refl, sym, ap, _∙_}
-use mathlib.Core.List.{List, [], _∷_, _++_}
-use lib.ListN.{length, getD, length-append}
+use mathlib.Core.List.{List, [], _∷_, _++_, append-nil}
+use lib.Dec.{leb}
+use borrow.Author.Tests.{leb-true, leb-false}
+use lib.ListN.{length, getD, take, drop, length-append}
 use mir.Syntax.{w8}
 use mir.Val.{Fits}
-use Rattle.octets.specs.Bytes.{le, num, part, over, pack, puts}
-use Rattle.octets.proofs.Part.{part-add, length-part, over-over, over-nil, over-whole, length-over}
+use Rattle.octets.specs.Bytes.{le, num, part, over, lay, pack, puts}
+use Rattle.octets.proofs.Bools.{bool-cases}
+use Rattle.octets.proofs.Part.{part-add, part-past, part-whole, length-part, over-whole, lent, lent-back, lay-lay, lay-nil, lay-fits}
 
 pub length-le : (w x : ℕ) → length (le w x) ≡ w
 unfolding le
@@ -83,34 +86,54 @@ le-pair n m a b p q =
     sym (rw (l, e) at (le-num s (bytes-append (le n a) (le m b) (bytes-le n a) (bytes-le m b))))
 
 -- what two neighbours say together
-pub field-pair : (at m n : ℕ) (b : List ℕ) → at + m ≤ length b → num (part at (m + n) b) ≡ num (part at m b) + top m * num (part (at + m) n b)
-field-pair at m n b h = rw (part-add at m n b, num-append (part at m b) (part (at + m) n b), length-part at m b h)
+pub field-pair : (at m n : ℕ) (b : List ℕ) → num (part at (m + n) b) ≡ num (part at m b) + top m * num (part (at + m) n b)
+unfolding num
+field-pair at m n b =
+    bool-cases (leb (at + m) (length b))
+    (λ e. rw (part-add at m n b, num-append (part at m b) (part (at + m) n b), length-part at m b (leb-true (at + m) (length b) e)))
+    (λ e. let h = leb-false (at + m) (length b) e in rw (part-add at m n b, part-past (at + m) n b (omega arith), append-nil (part at m b)) (omega arith))
 
-pub get-pair : (at n k : ℕ) (b : List ℕ) {x y r : ℕ} → x ≡ num (part at n b) → y ≡ num (part (at + n) n b) → n + n ≡ k → at + k ≤ length b → r ≡ x + y * top n → r ≡ num (part at k b)
-get-pair at n k b u v w h z = z ∙ rw (u, v, ← w, field-pair at n n b (omega arith), mul-comm (top n) (num (part (at + n) n b)))
+pub get-pair : (at n k : ℕ) (b : List ℕ) {x y r : ℕ} → x ≡ num (part at n b) → y ≡ num (part (at + n) n b) → n + n ≡ k → r ≡ x + y * top n → r ≡ num (part at k b)
+get-pair at n k b u v w z = z ∙ rw (u, v, ← w, field-pair at n n b, mul-comm (top n) (num (part (at + n) n b)))
+
+-- past the end there is nothing to read
+pub get-past : (at n : ℕ) (b : List ℕ) → length b ≤ at → 0 ≡ num (part at n b)
+unfolding num
+get-past at n b h = rw (part-past at n b h)
 
 -- the bytes of what the bytes say
 pub le-field : (at w : ℕ) (s : List ℕ) → at + w ≤ length s → Bytes s → le w (num (part at w s)) ≡ part at w s
 le-field at w s h p = rw (length-part at w s h) at (le-num (part at w s) (bytes-part at w s p))
 
 -- two stores side by side, of a number's low and high half
-pub put-pair : (at n k x : ℕ) (b : List ℕ) {e f : List ℕ} → e ≡ over at (le n (x % top n)) b → f ≡ over (at + n) (le n (x / top n)) e → n + n ≡ k → at + k ≤ length b → x / top n < top n → f ≡ over at (le k x) b
-put-pair at n k x b u v w h q =
+pub put-pair : (at n k x : ℕ) (b : List ℕ) {e f : List ℕ} → e ≡ lay at (le n (x % top n)) b → f ≡ lay (at + n) (le n (x / top n)) e → n + n ≡ k → x / top n < top n → f ≡ lay at (le k x) b
+put-pair at n k x b u v w q =
     let l = length-le n (x % top n) in
-    let j = length-le n (x / top n) in
     let z : x % top n + top n * (x / top n) ≡ x = add-comm (x % top n) (top n * (x / top n)) ∙ div-add-mod x (top n) in
-    v ∙ rw (u, over-over at (at + n) (le n (x % top n)) (le n (x / top n)) b (omega arith) (omega arith), le-pair n n (x % top n) (x / top n) (mod-lt x (top-pos n)) q, z, w)
+    v ∙ rw (u, lay-lay at (at + n) (le n (x % top n)) (le n (x / top n)) b (omega arith), le-pair n n (x % top n) (x / top n) (mod-lt x (top-pos n)) q, z, w)
 
 -- the stores of a row of fields, one after the other, are one store of their bytes
-pub puts-pack : (at : ℕ) (fs : List (ℕ × ℕ)) (b : List ℕ) → at + length (pack fs) ≤ length b → puts at fs b ≡ over at (pack fs) b
+pub puts-lay : (at : ℕ) (fs : List (ℕ × ℕ)) (b : List ℕ) → puts at fs b ≡ lay at (pack fs) b
 unfolding puts pack
-puts-pack at [] b h = sym (over-nil at b)
-puts-pack at (f ∷ fs) b h =
+puts-lay at [] b = sym (lay-nil at b)
+puts-lay at (f ∷ fs) b =
     let w = length-le (f .0) (f .1) in
-    let l : length (le (f .0) (f .1) ++ pack fs) ≡ f .0 + length (pack fs) = rw (length-append, w) in
-    let o = length-over at (le (f .0) (f .1)) b (omega arith) in
-    rw (puts-pack (at + f .0) fs (over at (le (f .0) (f .1)) b) (omega arith), over-over at (at + f .0) (le (f .0) (f .1)) (pack fs) b (omega arith) (omega arith))
+    rw (puts-lay (at + f .0) fs (lay at (le (f .0) (f .1)) b), lay-lay at (at + f .0) (le (f .0) (f .1)) (pack fs) b (omega arith))
+
+pub puts-pack : (at : ℕ) (fs : List (ℕ × ℕ)) (b : List ℕ) → at + length (pack fs) ≤ length b → puts at fs b ≡ over at (pack fs) b
+puts-pack at fs b h = puts-lay at fs b ∙ lay-fits at (pack fs) b h
 
 -- the same at the whole of a block
 pub puts-whole : (fs : List (ℕ × ℕ)) (b : List ℕ) → length (pack fs) ≡ length b → puts 0 fs b ≡ pack fs
 puts-whole fs b e = puts-pack 0 fs b (omega arith) ∙ over-whole (length b) (pack fs) b e refl
+
+-- a number read from `&b[at..at + w]`, and one stored to `&mut b[at..at + w]`, which comes back as e
+pub window-read : (at w : ℕ) (b : List ℕ) {x : ℕ} → x ≡ num (part 0 w (take ((at + w) - at) (drop at b))) → at + w ≤ length b → x ≡ num (part at w b)
+window-read at w b q h = q ∙ rw (lent at w b, part-whole w (part at w b) (length-part at w b h))
+
+pub window-store : (at w x : ℕ) (b : List ℕ) {e : List ℕ} → e ≡ lay 0 (le w x) (take ((at + w) - at) (drop at b)) → at + w ≤ length b → take at b ++ (e ++ drop ((at + w) - at) (drop at b)) ≡ over at (le w x) b
+window-store at w x b q h =
+    let k = length-part at w b h in
+    let l = length-le w x in
+    let z = lay-fits 0 (le w x) (part at w b) (omega arith) ∙ over-whole w (le w x) (part at w b) l k in
+    rw (q, lent at w b, z) (lent-back at w (le w x) b l h)

@@ -1,13 +1,13 @@
 -- Laws of `part` and `over`: what a store leaves, stores side by side, and parts that are lent and come back.
-use Prim.Native.Nat.{ℕ, zero, suc, _+_, _-_, _≤_, _<_}
-use native.Mathlib.Nat.{add-zero}
+use Prim.Native.Nat.{ℕ, zero, suc, _+_, _-_, _≤_, _<_, min}
+use native.Mathlib.Nat.{add-zero, zero-add, suc-add}
 use native.Mathlib.Numerals.{add-one}
 use native.Mathlib.Omega.{arith}
-use mathlib.Core.Path.{_≡_, refl, _∙_}
+use mathlib.Core.Path.{_≡_, refl, sym, ap, _∙_}
 use mathlib.Core.List.{List, [], _∷_, _++_, append-nil, append-assoc}
 use lib.ListN.{length, getD, set, take, drop, length-drop, length-append, drop-of-length-le, take-append-drop}
-use lib.Seq.{take-all, drop-drop, length-take-le, take-at, drop-at, take-append-le, drop-append-le, drop-append-add, set-split, take-take, take-add, drop-cons}
-use Rattle.octets.specs.Bytes.{part, over}
+use lib.Seq.{take-all, take-nil, drop-drop, length-take-le, take-at, drop-at, take-append-le, drop-append-le, drop-append-add, set-split, take-take, take-add, drop-cons}
+use Rattle.octets.specs.Bytes.{part, over, lay}
 
 pub length-part : (at n : ℕ) (b : List ℕ) → at + n ≤ length b → length (part at n b) ≡ n
 unfolding part
@@ -101,6 +101,11 @@ pub part-one : (at : ℕ) (b : List ℕ) → at < length b → part at 1 b ≡ g
 unfolding part
 part-one at b h = rw (drop-cons b at 0 h)
 
+-- past the end there is nothing
+pub part-past : (at n : ℕ) (b : List ℕ) → length b ≤ at → part at n b ≡ []
+unfolding part
+part-past at n b h = rw (drop-of-length-le b h) (take-nil n)
+
 pub part-whole : (n : ℕ) (b : List ℕ) → length b ≡ n → part 0 n b ≡ b
 unfolding part
 part-whole n b e = take-all n b (omega arith)
@@ -128,3 +133,67 @@ unfolding over
 lent-front at v b h u =
     let l : length (drop at b) ≤ length b - at = rw length-drop (omega arith) in
     rw (u, take-all (length b - at) (drop at b) l, drop-of-length-le (drop at b) l, append-nil (v ++ drop (length v) (drop at b)), drop-drop (length v) at b)
+
+-- ---- bytes laid over a buffer, as far as they fit
+
+pub length-lay : (at : ℕ) (s b : List ℕ) → length (lay at s b) ≡ length b
+unfolding lay
+length-lay at s [] = refl
+length-lay zero [] (y ∷ b) = refl
+length-lay zero (x ∷ s) (y ∷ b) = ap suc (length-lay zero s b)
+length-lay (suc at) s (y ∷ b) = ap suc (length-lay at s b)
+
+pub lay-nil : (at : ℕ) (b : List ℕ) → lay at [] b ≡ b
+unfolding lay
+lay-nil at [] = refl
+lay-nil zero (y ∷ b) = refl
+lay-nil (suc at) (y ∷ b) = ap (λ (l : List ℕ). y ∷ l) (lay-nil at b)
+
+-- past the end nothing is laid
+pub lay-past : (at : ℕ) (s b : List ℕ) → length b ≤ at → b ≡ lay at s b
+unfolding lay
+lay-past at s [] h = refl
+lay-past zero s (y ∷ b) h = absurd (omega arith)
+lay-past (suc at) s (y ∷ b) h = ap (λ (l : List ℕ). y ∷ l) (lay-past at s b (omega arith))
+
+-- one byte
+pub lay-set : (at x : ℕ) (b : List ℕ) → set b at x ≡ lay at (x ∷ []) b
+unfolding lay
+lay-set at x [] = refl
+lay-set zero x (y ∷ b) = ap (λ (l : List ℕ). x ∷ l) (sym (lay-nil zero b))
+lay-set (suc at) x (y ∷ b) = ap (λ (l : List ℕ). y ∷ l) (lay-set at x b)
+
+-- two, side by side
+pub lay-next : (at : ℕ) (s t b : List ℕ) → lay (at + length s) t (lay at s b) ≡ lay at (s ++ t) b
+unfolding lay
+lay-next at s t [] = refl
+lay-next zero [] t (y ∷ b) = refl
+lay-next zero (x ∷ s) t (y ∷ b) = rw zero-add (ap (λ (l : List ℕ). x ∷ l) (rw zero-add at (lay-next zero s t b)))
+lay-next (suc at) s t (y ∷ b) = rw suc-add (ap (λ (l : List ℕ). y ∷ l) (lay-next at s t b))
+
+pub lay-lay : (at k : ℕ) (s t b : List ℕ) → at + length s ≡ k → lay k t (lay at s b) ≡ lay at (s ++ t) b
+lay-lay at k s t b e = rw (sym e) (lay-next at s t b)
+
+-- where all fits it is a store
+pub lay-fits : (at : ℕ) (s b : List ℕ) → at + length s ≤ length b → lay at s b ≡ over at s b
+unfolding lay over
+lay-fits zero [] [] h = refl
+lay-fits (suc at) s [] h = absurd (omega arith)
+lay-fits zero (x ∷ s) [] h = absurd (omega arith)
+lay-fits zero [] (y ∷ b) h = refl
+lay-fits zero (x ∷ s) (y ∷ b) h = rw zero-add (ap (λ (l : List ℕ). x ∷ l) (rw zero-add at (lay-fits zero s b (omega arith))))
+lay-fits (suc at) s (y ∷ b) h = rw suc-add (ap (λ (l : List ℕ). y ∷ l) (lay-fits at s b (omega arith)))
+
+-- over the front
+pub lay-front : (s b : List ℕ) → length s ≤ length b → lay 0 s b ≡ s ++ drop (length s) b
+unfolding over
+lay-front s b h = rw zero-add at (lay-fits 0 s b (omega arith))
+
+-- what lies past the end of b may be cut off first
+pub lay-clip : (n : ℕ) (s b : List ℕ) → min (length s) (length b) ≤ n → lay 0 (take n s) b ≡ lay 0 s b
+unfolding lay
+lay-clip n s [] h = refl
+lay-clip zero [] (y ∷ b) h = refl
+lay-clip zero (x ∷ s) (y ∷ b) h = absurd (omega arith)
+lay-clip (suc n) [] (y ∷ b) h = refl
+lay-clip (suc n) (x ∷ s) (y ∷ b) h = ap (λ (l : List ℕ). x ∷ l) (lay-clip n s b (omega arith))

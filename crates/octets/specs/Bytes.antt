@@ -1,4 +1,5 @@
--- Numbers as little-endian bytes, parts of a buffer, and rows of fields.
+-- Numbers as little-endian bytes, parts of a buffer, bytes laid over it, and rows of fields.
+-- Every definition is total: a byte past the end of a buffer reads as 0 and is not written.
 -- Leans on the kit's lists alone.
 use Prim.Native.Nat.{ℕ, zero, suc, _+_, _*_, _/_, _%_}
 use mathlib.Core.List.{List, [], _∷_, _++_}
@@ -21,6 +22,13 @@ part at n b = take n (drop at b)
 unfoldable pub over : ℕ → List ℕ → List ℕ → List ℕ
 over at s b = take at b ++ (s ++ drop (at + length s) b)
 
+-- b with s laid over it from byte at: the same where s fits, and what would lie past the end is left out
+unfoldable pub lay : ℕ → List ℕ → List ℕ → List ℕ
+lay at s [] = []
+lay zero [] (y ∷ b) = y ∷ b
+lay zero (x ∷ s) (y ∷ b) = x ∷ lay zero s b
+lay (suc at) s (y ∷ b) = y ∷ lay at s b
+
 -- what the w bytes from byte at say
 abbrev pub field : ℕ → ℕ → List ℕ → ℕ
 field at w b = num (part at w b)
@@ -33,4 +41,4 @@ pack (f ∷ fs) = le (f .0) (f .1) ++ pack fs
 -- b with each field stored in turn, from byte at
 unfoldable pub puts : ℕ → List (ℕ × ℕ) → List ℕ → List ℕ
 puts at [] b = b
-puts at (f ∷ fs) b = puts (at + f .0) fs (over at (le (f .0) (f .1)) b)
+puts at (f ∷ fs) b = puts (at + f .0) fs (lay at (le (f .0) (f .1)) b)

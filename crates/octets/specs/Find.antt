@@ -1,4 +1,5 @@
 -- The first element of a list that passes a test, for any list and test.
+-- Where none passes it is the list's length, so that one number tells both.
 -- Leans on `pick` alone.
 use Prim.Native.Nat.{ℕ, suc}
 use mathlib.Core.List.{List, [], _∷_}

@@ -1,4 +1,5 @@
--- A choice by a test that stays shut, with its laws: a goal keeps its size, and `search` finds the test's value among the branches taken.
+-- A choice by a test that stays shut, with its laws.
+-- So a goal keeps its size, and `search` finds the test's value among the branches taken.
 -- Leans on nothing.
 use mathlib.Core.Path.{_≡_, refl}
 use mathlib.Core.Bool.{Bool, true, false}

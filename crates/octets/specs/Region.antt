@@ -1,4 +1,5 @@
--- A region of equal blocks, each an element's bytes: stated once over the element, its width and its codec.
+-- A region of equal blocks, each an element's bytes.
+-- Stated once over the element, its width and its codec.
 -- Leans on `part` of Bytes.
 use Prim.Native.Nat.{ℕ, zero, suc, _+_}
 use mathlib.Core.Path.{_≡_}

@@ -80,7 +80,7 @@ module _ (peer : Eid) (expires : Bool) (cookie : Cookie) where
   flow-clock : (wish : Wish) (t : Table) → setFlow peer wish expires cookie t .table .now .clock ≡ t .now .clock
   unfolding setFlow freshFlow fixedFlow
   flow-clock AnyTag t = tag-clock (freeTagOf (usedTags peer (t .flows)) (turned t .counter)) (turned t)
-  flow-clock (Fixed tag) t = pick-cases P (λ _. pick-cases P (λ _. refl) (λ _. refl)) (λ _. insert-clock tag t)
+  flow-clock (Fixed tag) t = pick-cases P (λ _. refl) (λ _. pick-cases P (λ _. pick-cases P (λ _. refl) (λ _. refl)) (λ _. insert-clock tag t))
     where
       P : Flowed → Type 0
       P f = f .table .now .clock ≡ t .now .clock

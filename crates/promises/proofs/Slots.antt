@@ -2,13 +2,15 @@
 use Prim.Native.Nat.{ℕ, zero, suc, _+_, _%_, _≤_, _<_}
 use native.Mathlib.Omega.{arith}
 use native.Mathlib.Decide.{decLt}
-use mathlib.Core.Path.{_≡_, refl, sym, ap, _∙_}
+use mathlib.Core.Path.{_≡_, refl, ap, _∙_}
 use mathlib.Core.Bool.{Bool, true, false}
-use mathlib.Core.List.{List, [], _∷_, map}
-use lib.ListN.{length, getD, set, List·getD-map}
+use mathlib.Core.List.{List, [], _∷_}
+use lib.ListN.{length, getD, set}
 use Rattle.octets.specs.Pick.{pick-cases}
 use Rattle.octets.specs.Find.{find}
+use Rattle.octets.proofs.Finds as finds
 use Rattle.octets.proofs.Finds.{find-first, find-at}
+pub use Rattle.octets.proofs.Each.{getD-mapped}
 use Rattle.mctp.specs.declared.Key.{Key}
 use Rattle.mctp.specs.Terms.{sameKey}
 use Rattle.stamp.specs.declared.EventStamp.{EventStamp}
@@ -17,22 +19,20 @@ use Rattle.reassemble.specs.declared.State.the-variants.{Empty, Collecting, Don
 use Rattle.reassemble.specs.declared.Reassembler.{Reassembler}
 use Rattle.reassemble.specs.Slot.{collectsIn, collects, collectingState}
 use Rattle.reassemble.specs.Enter.{appended}
-use Rattle.promises.proofs.Facts.{no-both, no-true, same-key}
+pub use Rattle.reassemble.proofs.States.{collects-key}
+use Rattle.promises.proofs.Facts.{no-both, no-true}
 
 -- ---- one slot
 
-state-of : (f : State) (b : Bool) → collectsIn f b ≡ true → (f ≡ Collecting) × (b ≡ true)
+state-of : (f : State) (b : Bool) → collectsIn f b ≡ true → f ≡ Collecting
 state-of Empty b e = absurd (no-true e)
-state-of Collecting b e = (refl, e)
+state-of Collecting b e = refl
 state-of Done b e = absurd (no-true e)
 state-of (HandleOut n) b e = absurd (no-true e)
 
 module _ (K : Key) (s : Reassembler) (c : collects K s ≡ true) where
   pub collects-state : s .state ≡ Collecting
-  collects-state = (state-of (s .state) (sameKey (s .key) K) c) .0
-
-  pub collects-key : s .key ≡ K
-  collects-key = same-key (s .key) K ((state-of (s .state) (sameKey (s .key) K) c) .1)
+  collects-state = state-of (s .state) (sameKey (s .key) K) c
 
   -- and in no other state
   pub not-in : (f : State → Bool) → f Collecting ≡ false → f (s .state) ≡ false
@@ -66,11 +66,7 @@ module _ {A : Type 0} (f : A → Bool) (d : A) (n : f d ≡ false) where
 
   -- a place that passes is in the list
   pub passes-in : (l : List A) (k : ℕ) → f (getD l k d) ≡ true → k < length l
-  passes-in l k y = go (decLt k (length l))
-    where
-      go : Dec (k < length l) → k < length l
-      go (yes h) = h
-      go (no h) = absurd (no-both (f d) (rw (past l k (omega arith)) at y) n)
+  passes-in l k y = finds.passes-in f l k d n y
 
   -- the first place that passes is found
   pub find-is : (l : List A) (k : ℕ) → f (getD l k d) ≡ true → ((i : ℕ) → i < k → f (getD l i d) ≡ false) → find f l ≡ k
@@ -83,9 +79,6 @@ module _ {A : Type 0} (f : A → Bool) (d : A) (n : f d ≡ false) where
       go : Dec (k < length l) → f (getD l k d) ≡ false
       go (yes q) = find-first f l k d (omega arith)
       go (no q) = rw (past l k (omega arith)) n
-
-pub getD-mapped : {A : Type 0} (f : A → A) (l : List A) (k : ℕ) (d : A) → f d ≡ d → getD (map f l) k d ≡ f (getD l k d)
-getD-mapped f l k d e = ap (getD (map f l) k) (sym e) ∙ List·getD-map f l k d
 
 pub getD-set-default : {A : Type 0} (l : List A) (i : ℕ) (d : A) → getD (set l i d) i d ≡ d
 getD-set-default [] i d = refl

@@ -1,4 +1,5 @@
--- What was taken: the packets that a stack answered with "more" or a message, newest first; and what of them belongs to a key since its newest opening packet.
+-- What was taken: the packets that a stack answered with "more" or a message, newest first.
+-- And what of them belongs to a key since its newest opening packet.
 -- Leans on `Calls`, and on `mctp` for headers and keys.
 use Prim.Native.Nat.{ℕ, _+_, _%_}
 use mathlib.Core.Path.{_≡_}

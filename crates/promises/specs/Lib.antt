@@ -1,3 +1,6 @@
+-- What the theorems speak of, beside the definitions that the contracts cite.
+-- Calls: a world and a call in it. Delivery, History: demand 3's two halves. Figures: document 01's table.
+-- Leans on the definitions of `estack`, `receiving` and `fragment`.
 pub mod Calls
 pub mod Delivery
 pub mod History

@@ -3,7 +3,7 @@
 use Prim.Native.Nat.{ℕ, zero, suc, _+_, _-_, _≤_, _<_, suc-le-suc}
 use native.Mathlib.Nat.{not-suc-le-zero, le-of-suc-le-suc, zero-lt-suc}
 use native.Mathlib.Omega.{arith}
-use mathlib.Core.Path.{_≡_, refl, sym, ap, _∙_}
+use mathlib.Core.Path.{_≡_, refl, sym, ap, subst, _∙_}
 use mathlib.Core.Logic.{_⊎_, inl, inr}
 use mathlib.Core.Bool.{Bool, true, false}
 use mathlib.Core.List.{List, [], _∷_}
@@ -17,7 +17,6 @@ use Rattle.mctp.specs.declared.Header.{Header}
 use Rattle.mctp.specs.declared.HeaderRead.{HeaderRead}
 use Rattle.mctp.specs.declared.HeaderRead.the-variants.{Good, Bad}
 use Rattle.mctp.specs.declared.Error.{Error}
-use Rattle.mctp.specs.declared.Error.the-variants.{InvalidInput, NoSpace}
 use Rattle.mctp.specs.Terms.{sameKey}
 use Rattle.stamp.specs.declared.EventStamp.{EventStamp}
 use Rattle.stamp.specs.Stamp.{earlier}
@@ -28,7 +27,7 @@ use Rattle.reassemble.specs.declared.Outcome.the-variants.{Freed}
 use Rattle.reassemble.specs.declared.Entry.{Entry}
 use Rattle.reassemble.specs.Slot.{blankSlot, isEmpty, isDone, handleTaken, collects, collectsIn, emptyState, doneState, outState}
 use Rattle.reassemble.specs.Search.{slotFor, earliest}
-use Rattle.reassemble.specs.Enter.{enter, append, appended, begun, freed, outcomeOf, Planned}
+use Rattle.reassemble.specs.Enter.{enter, append, appended, outcomeOf, Planned}
 use Rattle.octets.proofs.Bools.{no-both}
 use Rattle.stamp.proofs.Order.{earlier-irreflexive, earlier-asymmetric, not-earlier-trans}
 
@@ -76,7 +75,7 @@ same-test true y f g = sym (f refl)
 same-test false true f g = g refl
 same-test false false f g = refl
 
-same-ltb : (a b c d : ℕ) → (a < b → c < d) → (c < d → a < b) → ltb a b ≡ ltb c d
+pub same-ltb : (a b c d : ℕ) → (a < b → c < d) → (c < d → a < b) → ltb a b ≡ ltb c d
 same-ltb a b c d f g =
     same-test (ltb a b) (ltb c d) (λ e. lt-ltb c d (f (ltb-true a b e))) (λ e. lt-ltb a b (g (ltb-true c d e)))
 
@@ -187,11 +186,6 @@ module _ (f : Reassembler → Bool) where
       let d : earlier (stampAt l e) (s .stamp) ≡ earlier (stampAt slots j) (s .stamp) = ap (λ (r : Reassembler). earlier (r .stamp) (s .stamp)) g in
       rw (drop-cons slots i blankSlot h, ← c, ← d) (shifted i e j q (isDone s) (f s) (ltb e (length l)) (earlier (stampAt l e) (s .stamp)))
 
--- a packet that is taken: n bytes more
-abbrev joined : EventStamp → ℕ → Reassembler → Header → List ℕ → ℕ → Entry
-joined now issue t h p start =
-    record { slot = appended (h .eom) now issue (length p - start) t; at = t .len; from = start; outcome = outcomeOf (h .eom) }
-
 not-freed : (eom : Bool) (err : Error) → outcomeOf eom ≡ Freed err → ⊥
 not-freed true err e = let z : _≡_ {A = ℕ} 0 1 = cc in omega arith
 not-freed false err e = let z : _≡_ {A = ℕ} 0 1 = cc in omega arith
@@ -202,48 +196,72 @@ pub record Entered (B : ℕ) (s t : Reassembler) : Type 0 where
   pub seq : t .«next_seq» < 4
   pub whose : (t ≡ blankSlot) ⊎ (t .key ≡ s .key)
 
-module _ (B : ℕ) (now : EventStamp) (issue : ℕ) (s : Reassembler) (h : Header) (p : List ℕ) where
-  append-cases : (P : Entry → Type 0) (t : Reassembler) (start : ℕ) → ((err : Error) → P (freed err p))
-      → (t .len + (length p - start) ≤ B → P (joined now issue t h p start))
-      → P (append B now issue t h p start)
-  unfolding append
-  append-cases P t start refused taken =
-      pick-cases P (λ _. pick-cases P (λ _. refused NoSpace) (λ e. taken (ltb-false B (t .len + (length p - start)) e))) (λ _. refused InvalidInput)
+-- what holds at each end of a packet's way: SOM with 4 bytes only; then, with SOM and without it, a wrong sequence, no room, taken
+by-steps : (P : Entry → Type 0) (e : Entry) {som short seq full seq' full' : Bool} {brief wrong over begins wrong' over' goes-on : Entry}
+    → e ≡ pick som (pick short brief (pick seq (pick full over begins) wrong)) (pick seq' (pick full' over' goes-on) wrong')
+    → P brief → P wrong → P over → (som ≡ true → short ≡ false → seq ≡ true → full ≡ false → P begins)
+    → P wrong' → P over' → (som ≡ false → seq' ≡ true → full' ≡ false → P goes-on)
+    → P e
+by-steps P e q brief wrong over begins wrong' over' goes-on =
+    subst P (sym q)
+    (pick-cases P (λ m. pick-cases P (λ _. brief) (λ f. pick-cases P (λ n. pick-cases P (λ _. over) (begins m f n)) (λ _. wrong)))
+    (λ m. pick-cases P (λ n. pick-cases P (λ _. over') (goes-on m n)) (λ _. wrong')))
 
-  -- a packet is refused, or taken by a slot of the same key, empty where the packet has SOM
-  enter-cases : (P : Entry → Type 0) → ((err : Error) → P (freed err p))
-      → ((t : Reassembler) (start : ℕ) → t .key ≡ s .key → (h .som ≡ true → t .len ≡ 0) → (4 ≤ length p → start ≤ length p) → t .len + (length p - start) ≤ B → P (joined now issue t h p start))
-      → P (enter B now issue s h p)
-  unfolding enter
-  enter-cases P refused taken =
-      pick-cases P
-      (λ _. pick-cases P (λ _. refused InvalidInput)
-      (λ e. let k = ltb-false (length p) 5 e in append-cases P (begun now h (getD p 4 0) s) 5 refused (taken (begun now h (getD p 4 0) s) 5 refl (λ _. refl) (λ _. k))))
-      (λ e. append-cases P s 4 refused (taken s 4 refl (λ g. absurd (no-both g e)) (λ k. k)))
+module _ (B : ℕ) (now : EventStamp) (issue : ℕ) (s : Reassembler) (h : Header) (p : List ℕ) where
+  -- a packet that frees the slot leaves it blank, and none of its bytes is planned
+  pub enter-freed : (err : Error) → enter B now issue s h p .outcome ≡ Freed err → (enter B now issue s h p .slot ≡ blankSlot) × (enter B now issue s h p .from ≡ length p)
+  unfolding enter append
+  enter-freed err =
+      by-steps (λ (e : Entry). e .outcome ≡ Freed err → (e .slot ≡ blankSlot) × (e .from ≡ length p)) (enter B now issue s h p) refl
+      (λ _. (refl, refl))
+      (λ _. (refl, refl))
+      (λ _. (refl, refl))
+      (λ _ _ _ _ o. absurd (not-freed (h .eom) err o))
+      (λ _. (refl, refl))
+      (λ _. (refl, refl))
+      (λ _ _ _ o. absurd (not-freed (h .eom) err o))
+
+  unplanned : (e : Entry) → e .at ≡ 0 → e .from ≡ length p → Planned e (length p) B
+  unplanned e a f = record { within = omega arith; fits = omega arith }
 
   -- the plan's bytes are the packet's, and fit the body
   pub enter-plan : 4 ≤ length p → Planned (enter B now issue s h p) (length p) B
+  unfolding enter append
   enter-plan k =
-      enter-cases (λ (e : Entry). Planned e (length p) B)
-      (λ _. record { within = omega arith; fits = omega arith })
-      (λ t start _ _ w fits. record { within = w k; fits = fits })
+      by-steps (λ (e : Entry). Planned e (length p) B) (enter B now issue s h p) refl
+      (unplanned _ refl refl)
+      (unplanned _ refl refl)
+      (unplanned _ refl refl)
+      (λ _ f _ g. record { within = ltb-false _ _ f; fits = ltb-false _ _ g })
+      (unplanned _ refl refl)
+      (unplanned _ refl refl)
+      (λ _ _ g. record { within = k; fits = ltb-false _ _ g })
+
+  -- the same of an entry that is told by `enter`
+  pub told-plan : (e : Entry) → e ≡ enter B now issue s h p → (e ≡ enter B now issue s h p) × (4 ≤ length p → s .len ≤ B → Planned e (length p) B)
+  told-plan e q = (q, λ k _. subst (λ (r : Entry). Planned r (length p) B) (sym q) (enter-plan k))
+
+  emptied : Entered B s blankSlot
+  emptied = record { len = omega arith; seq = omega arith; whose = inl refl }
+
+  grown : (n : ℕ) (t : Reassembler) → t .key ≡ s .key → t .len + n ≤ B → Entered B s (appended (h .eom) now issue n t)
+  grown n t k fits =
+      pick-cases (Entered B s)
+      (λ _. record { len = fits; seq = omega arith; whose = inr k })
+      (λ _. record { len = fits; seq = omega arith; whose = inr k })
 
   -- the next slot's body fits, its next sequence is one, and it is blank or has the slot's key
   pub enter-ok : Entered B s (enter B now issue s h p .slot)
+  unfolding enter append
   enter-ok =
-      enter-cases (λ (e : Entry). Entered B s (e .slot))
-      (λ _. record { len = omega arith; seq = omega arith; whose = inl refl })
-      (λ t start k _ _ fits. pick-cases (Entered B s)
-      (λ _. record { len = fits; seq = omega arith; whose = inr k })
-      (λ _. record { len = fits; seq = omega arith; whose = inr k }))
-
-  -- a packet that frees the slot leaves it blank, and none of its bytes is planned
-  pub enter-freed : (err : Error) → enter B now issue s h p .outcome ≡ Freed err → (enter B now issue s h p .slot ≡ blankSlot) × (enter B now issue s h p .from ≡ length p)
-  enter-freed err =
-      enter-cases (λ (e : Entry). e .outcome ≡ Freed err → (e .slot ≡ blankSlot) × (e .from ≡ length p))
-      (λ _ _. (refl, refl))
-      (λ t start _ _ _ _ o. absurd (not-freed (h .eom) err o))
+      by-steps (λ (e : Entry). Entered B s (e .slot)) (enter B now issue s h p) refl
+      emptied emptied emptied
+      (λ _ _ _ g. grown _ _ refl (ltb-false _ _ g))
+      emptied emptied
+      (λ _ _ g. grown _ _ refl (ltb-false _ _ g))
 
   -- with SOM the packet's bytes go to the body's start, whatever the slot's length was
   pub enter-start : h .som ≡ true → enter B now issue s h p .at ≡ 0
-  enter-start e = enter-cases (λ (r : Entry). r .at ≡ 0) (λ _. refl) (λ t start _ z _ _. z e)
+  unfolding enter append
+  enter-start e =
+      by-steps (λ (r : Entry). r .at ≡ 0) (enter B now issue s h p) refl refl refl refl (λ _ _ _ _. refl) refl refl (λ f _ _. absurd (no-both e f))

@@ -1,4 +1,5 @@
 -- Which slot: of a list of slots of any length.
+-- The first that collects the key, else the first empty one; and the earliest that is done.
 -- Leans on `find`, and on specs/Slot.antt.
 use Prim.Native.Nat.{ℕ, zero, suc}
 use mathlib.Core.Bool.{Bool, true, false}

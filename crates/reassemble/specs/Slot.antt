@@ -1,4 +1,5 @@
--- A slot: empty, collecting, or done; done has a handle out or not. What it answers to, and what a handle does to it (document 01, "Reassembler", "Handles").
+-- A slot: empty, collecting, or done; done has a handle out or not (document 01, "Reassembler", "Handles").
+-- What it answers to, and what a handle does to it.
 -- Leans on `mctp` for keys, on `stamp` for time.
 use Prim.Native.Nat.{ℕ}
 use mathlib.Core.Bool.{Bool, true, false, not}
@@ -34,6 +35,13 @@ blankSlot = record {
   cookie = Absent;
   stamp = record { clock = 0; counter = 0 };
 }
+
+-- 0 empty, 1 collecting, 2 done, 3 with a handle out
+abbrev pub stateNo : State → ℕ
+stateNo Empty = 0
+stateNo Collecting = 1
+stateNo Done = 2
+stateNo (HandleOut n) = 3
 
 abbrev pub emptyState : State → Bool
 emptyState Empty = true

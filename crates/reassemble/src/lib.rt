@@ -4,8 +4,9 @@
 ghost use mathlib.Core.Path.{_≡_};
 ghost use Prim.Native.Nat.{_+_, _-_, _≤_, _<_, _^_};
 ghost use mathlib.Core.Bool.{false};
+ghost use lib.Dec.{ltb};
 ghost use lib.ListN.{length};
-ghost use Rattle.reassemble.specs.Slot.{blankSlot, isEmpty, isDone, handleIs, handleTaken, collects, isReply, keptUnder, slotTimeout, restated, recookied};
+ghost use Rattle.reassemble.specs.Slot.{blankSlot, stateNo, isEmpty, isDone, handleIs, handleTaken, collects, isReply, keptUnder, slotTimeout, restated, recookied};
 ghost use Rattle.reassemble.specs.Enter.{isLocal, localPacket, opening, opened, gateEmpty, gateReply, freed, begun, appended, append, enter, outcomeOf, Planned};
 use mctp::Cookie;
 use mctp::Eid;
@@ -172,29 +173,37 @@ fn freed_by(err: Error, packet: &[u8]) -> Entry
 }
 
 impl Reassembler {
-    pub fn is_empty(self) -> bool
-        ensures { λ r. ⌜ r ≡ isEmpty self ⌝ }
+    // The state's number: 0 empty, 1 collecting, 2 done, 3 with a handle out.
+    pub fn phase(self) -> u8
+        ensures { λ r. ⌜ r ≡ stateNo (self .state) ⌝ }
     {
         let state = self.state;
         match state {
-            State::Empty => true,
-            State::Collecting => false,
-            State::Done => false,
-            State::HandleOut(_) => false,
+            State::Empty => 0,
+            State::Collecting => 1,
+            State::Done => 2,
+            State::HandleOut(_) => 3,
         }
+    }
+
+    pub fn is_empty(self) -> bool
+        ensures { λ r. ⌜ r ≡ isEmpty self ⌝ }
+    {
+        self.phase() == 0
     }
 
     // Done, with no handle out.
     pub fn is_done(self) -> bool
         ensures { λ r. ⌜ r ≡ isDone self ⌝ }
     {
-        let state = self.state;
-        match state {
-            State::Empty => false,
-            State::Collecting => false,
-            State::Done => true,
-            State::HandleOut(_) => false,
-        }
+        self.phase() == 2
+    }
+
+    // A handle is out.
+    pub fn handle_taken(self) -> bool
+        ensures { λ r. ⌜ r ≡ handleTaken self ⌝ }
+    {
+        self.phase() == 3
     }
 
     // The handle of that issue number is out.
@@ -210,30 +219,14 @@ impl Reassembler {
         }
     }
 
-    // A handle is out.
-    pub fn handle_taken(self) -> bool
-        ensures { λ r. ⌜ r ≡ handleTaken self ⌝ }
-    {
-        let state = self.state;
-        match state {
-            State::Empty => false,
-            State::Collecting => false,
-            State::Done => false,
-            State::HandleOut(_) => true,
-        }
-    }
-
     // Collecting, under that key.
     pub fn matches_packet(self, key: Key) -> bool
         ensures { λ r. ⌜ r ≡ collects key self ⌝ }
     {
-        let state = self.state;
-        match state {
-            State::Empty => false,
-            State::Collecting => mctp::same_key(self.key, key),
-            State::Done => false,
-            State::HandleOut(_) => false,
+        if self.phase() == 1 {
+            return mctp::same_key(self.key, key);
         }
+        false
     }
 
     // The record in another state, under another cookie.
@@ -351,6 +344,26 @@ impl Reassembler {
     }
 }
 
+// The bytes of a packet from `start` on: none where it ends before.
+fn left_from(packet: &[u8], start: usize) -> usize
+    ensures { λ r. ⌜ r ≡ length (now (packet .entry)) - start ⌝ }
+{
+    if packet.len() < start {
+        return 0;
+    }
+    packet.len() - start
+}
+
+// Whether n bytes more are too many for a body of `len` bytes that holds at most `most`.
+fn overfills(len: usize, n: usize, most: usize) -> bool
+    ensures { λ r. ⌜ r ≡ ltb most (len + n) ⌝ }
+{
+    if most < len {
+        return true;
+    }
+    most - len < n
+}
+
 // Steps 5 and 6 for a body that starts at `start`; `most` is the most that a body holds.
 fn accept(
     s: Reassembler,
@@ -361,15 +374,15 @@ fn accept(
     issue: u64,
     most: usize,
 ) -> Entry
-    requires { ⌜ (start ≤ length (now packet)) × (s .len ≤ most) ⌝ }
-    ensures { λ r. ⌜ (r ≡ append most stamp issue s h (now (packet .entry)) start) × Planned r (length (now (packet .entry))) most ⌝ }
+    ensures { λ r. ⌜ r ≡ append most stamp issue s h (now (packet .entry)) start ⌝ }
 {
     if h.seq != s.next_seq {
         return freed_by(Error::InvalidInput, packet);
     }
-    let n = packet.len() - start;
+    let n = left_from(packet, start);
     let len = s.len;
-    if most - len < n {
+    let over = overfills(len, n, most);
+    if over {
         return freed_by(Error::NoSpace, packet);
     }
     let slot = s.grow(h.eom, stamp, issue, n);
@@ -400,8 +413,8 @@ pub fn receive(
     issue: u64,
     most: usize,
 ) -> Entry
-    requires { ⌜ (4 ≤ length (now packet)) × (s .len ≤ most) ⌝ }
-    ensures { λ r. ⌜ (r ≡ enter most stamp issue s h (now (packet .entry))) × Planned r (length (now (packet .entry))) most ⌝ }
+    ensures { λ r. ⌜ r ≡ enter most stamp issue s h (now (packet .entry)) ⌝ }
+    ensures planned { λ r. ⌜ ((4 ≤ length (now (packet .entry))) → (s .len ≤ most) → Planned r (length (now (packet .entry))) most) ⌝ }
 {
     if h.som {
         if packet.len() < 5 {

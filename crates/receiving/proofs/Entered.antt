@@ -9,8 +9,8 @@ use lib.ListN.{length, getD, take, drop, length-drop}
 use lib.Seq.{take-all}
 use borrow.Author.Tests.{ltb-true, ltb-false}
 use Rattle.octets.specs.Pick.{pick-cases}
-use Rattle.octets.specs.Bytes.{over}
-use Rattle.octets.proofs.Part.{lent-front}
+use Rattle.octets.specs.Bytes.{over, lay}
+use Rattle.octets.proofs.Part.{lent-front, lay-front}
 use Rattle.octets.proofs.Region.{place-is, place-in}
 use Rattle.mctp.specs.declared.Cookie.{Cookie}
 use Rattle.mctp.specs.declared.Cookie.the-variants.{Absent}
@@ -33,7 +33,7 @@ use Rattle.reassemble.specs.Enter.{enter, append, appended, begun, opened, gate
 use Rattle.state.specs.declared.Sizes.{Sizes}
 use Rattle.state.specs.Slot.{SlotOk, issueNo}
 use Rattle.state.specs.Stack.{Stack, Kept, Becomes, stackOf}
-use Rattle.state.proofs.StackLaws.{flows-length, flow-ok, head-ok}
+use Rattle.state.proofs.StackLaws.{flow-ok, head-ok}
 use Rattle.tables.specs.Walks.{ticked}
 use Rattle.tables.proofs.SlotChecks.{blank-ok}
 use Rattle.receiving.specs.Receive.{nextIssue}
@@ -54,13 +54,13 @@ module _ (at from : ℕ) (packet pool : List ℕ) (fits : at + (length packet - 
   rest = take-all (length packet - from) (drop from packet) (rw length-drop (omega arith))
 
   -- `&packet[from..]` is no longer than `&mut pool[at..]`
-  pub lent-fits : length lent ≤ length (take (length pool - at) (drop at pool))
+  lent-fits : length lent ≤ length (take (length pool - at) (drop at pool))
   lent-fits = rw (rest, take-all (length pool - at) (drop at pool) (rw length-drop (omega arith)), length-drop, length-drop) (omega arith)
 
   -- and copied into it: what the pool holds once that comes back as e
-  pub copied : (e : List ℕ) → e ≡ lent ++ drop (length lent) (take (length pool - at) (drop at pool))
+  pub copied : (e : List ℕ) → e ≡ lay 0 lent (take (length pool - at) (drop at pool))
       → take at pool ++ (e ++ drop (length pool - at) (drop at pool)) ≡ over at (drop from packet) pool
-  copied e h = let l = length-drop from packet in lent-front at (drop from packet) pool (omega arith) (rw rest at h)
+  copied e h = let l = length-drop from packet in lent-front at (drop from packet) pool (omega arith) (rw rest at (h ∙ lay-front lent (take (length pool - at) (drop at pool)) lent-fits))
 
 -- the ranges of a stamp
 pub record StampOk (t : EventStamp) : Type 0 where
@@ -176,7 +176,7 @@ gate-ok z b own h s k ok e =
     let i = flowPlace (h .key .source) (h .key .tag) fs in
     subst (GateOk (z .body)) e
     (gate-fits (z .body) own h (standing (h .key .source) (h .key .tag) fs) (flowCookie (h .key .source) (h .key .tag) fs) ok
-    (λ t. flow-ok z b k i (omega (arith, flows-length z b, ltb-true i (length fs) t)) .value))
+    (λ t. flow-ok z b k i .value))
 
 -- the ranges of a good header, and its packet's length
 pub record Low (p : List ℕ) (h : Header) : Type 0 where

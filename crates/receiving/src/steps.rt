@@ -131,7 +131,10 @@ fn carry(
 {
     let n = packet.len() - 4;
     tables::tick(state, sizes);
-    state::put_progress(state, sizes, i, (h.seq % 4 + 1) % 4, p.len + n);
+    let seq = (h.seq % 4 + 1) % 4;
+    let len = p.len + n;
+    let next = Progress { seq: seq, len: len };
+    state::put_progress(state, sizes, i, next);
     let at = sizes.body * i + p.len;
     copying::copy(&mut pool[at..], &packet[4..]);
     Received::More

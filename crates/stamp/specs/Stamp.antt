@@ -1,4 +1,5 @@
 -- Document 01, "Event stamp": a clock and a 32-bit counter, ordered by clock and then counter.
+-- Age 6,000 leaves 0; 6,001 is expired, and so is a stamp later than now.
 -- Leans on `pick` alone.
 use Prim.Native.Nat.{ℕ, _+_, _-_, min}
 use mathlib.Core.Bool.{Bool, true, false}

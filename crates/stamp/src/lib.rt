@@ -1,4 +1,5 @@
-// A clock and a counter that order events, after the Rust's `EventStamp`; timeouts are told from the clock alone.
+// A clock and a counter that order events, after the Rust's `EventStamp`.
+// Age, what is left of a timeout and expiry are told from the clock alone. Definitions: specs/Stamp.antt.
 // Leans on `octets` for `pick` alone.
 ghost use mathlib.Core.Path.{_≡_};
 ghost use Rattle.stamp.specs.Stamp.{next, clocked, earlier, timeoutOf, isExpired, soonerOf};

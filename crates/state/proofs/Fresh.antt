@@ -7,21 +7,24 @@ use mathlib.Core.List.{List, _++_}
 use lib.ListN.{length, take, drop, replicate, length-replicate, length-take, replicate-append-replicate}
 use lib.Seq.{take-at, drop-at}
 use lib.Dec.{lit<, lit≤}
-use Rattle.octets.specs.Bytes.{le, num, part, pack}
+use Rattle.octets.specs.Bytes.{le, num, part, pack, lay}
 use Rattle.octets.specs.Pick.{pick}
 use Rattle.octets.specs.Region.{Codec, place, region, Holds, Regular}
-use Rattle.octets.proofs.Part.{part-part}
+use Rattle.octets.proofs.Part.{part-part, lay-front}
 use Rattle.octets.proofs.Region.{place-is, place-up}
 use Rattle.mctp.specs.Terms.{cookieOf}
-use Rattle.flows.specs.Codec.{flowWidth, expiryOf, flowCodec, flowBytes, flowOf, FlowOk}
+use Rattle.flows.specs.Codec.{flowWidth, expiryOf, flowCodec, flowOf}
 use Rattle.flows.specs.Table.{noFlow}
+use Rattle.flows.proofs.CodecLaws.{blank-flow}
+use Rattle.flows.proofs.TableLaws.{no-flow-ok}
 use Rattle.reassemble.specs.Slot.{blankSlot}
 use Rattle.state.specs.declared.Head.{Head}
 use Rattle.state.specs.declared.Sizes.{Sizes}
 use Rattle.state.specs.Layout.{headWidth, slotWidth, flowCount, flowsAt, slotsAt, size, SizesOk}
 use Rattle.state.specs.Head.{headCodec, headBytes, headOf, HeadOk}
-use Rattle.state.specs.Slot.{stateFrom, slotCodec, slotBytes, slotOf, SlotOk}
+use Rattle.state.specs.Slot.{stateFrom, slotCodec, slotBytes, slotOf}
 use Rattle.state.specs.Stack.{Stack, stackOf, Kept, Becomes}
+use Rattle.state.proofs.SlotLaws.{slot-blank}
 
 -- a part of zeros
 part-zeros : (at w k : ℕ) → part at w (replicate (at + (w + k)) 0) ≡ replicate w 0
@@ -92,10 +95,6 @@ flow-dec : flowOf (replicate flowWidth 0) ≡ noFlow
 unfolding flowOf part num pick cookieOf expiryOf
 flow-dec = refl
 
-flow-enc : flowBytes noFlow ≡ replicate flowWidth 0
-unfolding flowBytes pack le
-flow-enc = refl
-
 slot-dec : slotOf (replicate slotWidth 0) ≡ blankSlot
 unfolding slotOf part num pick cookieOf stateFrom
 slot-dec = refl
@@ -107,25 +106,8 @@ slot-enc = refl
 head-blank : HeadOk blankHead
 head-blank = record { own = lit< tt; tag = lit< tt; seq = lit< tt; counter = lit< tt; clock = lit< tt; planned = lit< tt; issue = lit< tt; mtu = lit< tt; soon = lit≤ tt }
 
-flow-blank : FlowOk noFlow
-flow-blank = record { peer = lit< tt; tag = lit< tt; value = lit< tt; clock = lit< tt; counter = lit< tt }
-
-slot-blank : (B : ℕ) → SlotOk B blankSlot
-slot-blank B = record {
-  dest = lit< tt;
-  source = lit< tt;
-  tag = lit< tt;
-  typ = lit< tt;
-  seq = lit< tt;
-  len = omega arith;
-  wide = lit< tt;
-  counter = lit< tt;
-  clock = lit< tt;
-  value = lit< tt;
-  issue = lit< tt;
-}
-
 module _ (z : Sizes) (b : List ℕ) (sizes : SizesOk z) (zeros : take (size z) b ≡ replicate (size z) 0) where
+  -- the flows end in the state, and so do the slots
   flows-in : place flowWidth flowsAt flowCount ≤ size z
   flows-in = let p = place-is flowWidth flowsAt flowCount in omega arith
 
@@ -137,7 +119,7 @@ module _ (z : Sizes) (b : List ℕ) (sizes : SizesOk z) (zeros : take (size z) b
     sizes = sizes;
     long = let l = ap length zeros in let n = length-replicate {A = ℕ} (size z) 0 in omega (arith, simp length-take at l);
     head = zeros-hold (size z) b zeros headCodec blankHead head-dec head-enc head-blank 0 (omega arith);
-    flows = zeros-regular (size z) b zeros flowCodec noFlow flow-dec flow-enc flow-blank flowCount flowsAt flows-in;
+    flows = zeros-regular (size z) b zeros flowCodec noFlow flow-dec blank-flow no-flow-ok flowCount flowsAt flows-in;
     slots = zeros-regular (size z) b zeros (slotCodec (z .body)) blankSlot slot-dec slot-enc (slot-blank (z .body)) (z .slots) slotsAt slots-in;
   }
 
@@ -145,14 +127,15 @@ module _ (z : Sizes) (b : List ℕ) (sizes : SizesOk z) (zeros : take (size z) b
   unfolding stackOf
   fresh-stack =
       let h : headOf (part 0 headWidth b) ≡ blankHead = ap headOf (zeros-part (size z) b zeros 0 headWidth (omega arith)) ∙ head-dec in
-      let f = zeros-region (size z) b zeros flowCodec noFlow flow-dec flow-enc flow-blank flowCount flowsAt flows-in in
+      let f = zeros-region (size z) b zeros flowCodec noFlow flow-dec blank-flow no-flow-ok flowCount flowsAt flows-in in
       let s = zeros-region (size z) b zeros (slotCodec (z .body)) blankSlot slot-dec slot-enc (slot-blank (z .body)) (z .slots) slotsAt slots-in in
       λ i. record { head = h i; flows = f i; slots = s i }
 
 -- what `clear` leaves
-pub fresh-becomes : (z : Sizes) (b : List ℕ) → SizesOk z → Becomes z b (replicate (size z) 0 ++ drop (size z) b) (freshStack z)
-fresh-becomes z b sizes =
+pub fresh-becomes : (z : Sizes) (b : List ℕ) → SizesOk z → size z ≤ length b → Becomes z b (lay 0 (replicate (size z) 0) b) (freshStack z)
+fresh-becomes z b sizes h =
     let r = length-replicate {A = ℕ} (size z) 0 in
+    let l : lay 0 (replicate (size z) 0) b ≡ replicate (size z) 0 ++ drop (size z) b = rw r at (lay-front (replicate (size z) 0) b (omega arith)) in
     let e = take-at (replicate (size z) 0) (drop (size z) b) (size z) r in
     let x = replicate (size z) 0 ++ drop (size z) b in
-    record { view = fresh-stack z x sizes e; kept = fresh-kept z x sizes e; rest = drop-at (replicate (size z) 0) (drop (size z) b) (size z) r }
+    rw l (record { view = fresh-stack z x sizes e; kept = fresh-kept z x sizes e; rest = drop-at (replicate (size z) 0) (drop (size z) b) (size z) r })

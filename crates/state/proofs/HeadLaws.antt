@@ -2,9 +2,8 @@
 use Prim.Native.Nat.{ℕ, _^_, _<_}
 use native.Mathlib.Omega.{arith}
 use mathlib.Core.Path.{_≡_, refl}
-use mathlib.Core.List.{[], _∷_}
 use lib.ListN.{length}
-use Rattle.octets.specs.Bytes.{le, part, field, pack, puts, over}
+use Rattle.octets.specs.Bytes.{le, part, field, pack, lay}
 use Rattle.octets.proofs.Number.{num-le, top}
 use Rattle.octets.proofs.Region.{Lawful}
 use Rattle.state.specs.declared.Head.{Head}
@@ -47,15 +46,15 @@ pub head-lawful : Lawful headCodec
 head-lawful = record { long = head-long; back = head-back }
 
 -- narrow stores in a head's bytes
-pub counter-bytes : (n : ℕ) (h : Head) → puts 4 ((4, n) ∷ []) (headBytes h) ≡ headBytes (recounted n h)
-unfolding headBytes pack le puts over
+pub counter-bytes : (n : ℕ) (h : Head) → lay 4 (le 4 n) (headBytes h) ≡ headBytes (recounted n h)
+unfolding headBytes pack le lay
 counter-bytes n h = refl
 
 pub counter-ok : (n : ℕ) (h : Head) → n < 2 ^ 32 → HeadOk h → HeadOk (recounted n h)
 counter-ok n h l ok = record { own = ok .own; tag = ok .tag; seq = ok .seq; counter = l; clock = ok .clock; planned = ok .planned; issue = ok .issue; mtu = ok .mtu; soon = ok .soon }
 
-pub issue-bytes : (n : ℕ) (h : Head) → puts 24 ((8, n) ∷ []) (headBytes h) ≡ headBytes (reissued n h)
-unfolding headBytes pack le puts over
+pub issue-bytes : (n : ℕ) (h : Head) → lay 24 (le 8 n) (headBytes h) ≡ headBytes (reissued n h)
+unfolding headBytes pack le lay
 issue-bytes n h = refl
 
 pub issue-ok : (n : ℕ) (h : Head) → n < 2 ^ 64 → HeadOk h → HeadOk (reissued n h)

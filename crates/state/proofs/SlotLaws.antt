@@ -1,26 +1,28 @@
 -- A slot that is Ok comes back from its bytes, since each field stands at its own place and fits it.
 use Prim.Native.Nat.{ℕ, _+_, _/_, _%_, _<_, _≤_}
 use native.Mathlib.Omega.{arith}
-use mathlib.Core.Path.{_≡_, refl, sym, ap, _∙_}
+use mathlib.Core.Path.{_≡_, refl, ap, _∙_}
 use mathlib.Core.Bool.{Bool, true, false}
 use mathlib.Core.List.{List}
-use lib.Dec.{eqb}
+use lib.Dec.{eqb, lit<}
 use lib.ListN.{length}
 use borrow.Author.Tests.{eq-eqb, ne-eqb}
-use Rattle.octets.specs.Bytes.{le, num, part, field, pack, puts, over}
+use Rattle.octets.specs.Bytes.{le, num, part, field, pack, puts, lay}
 use Rattle.octets.specs.Pick.{pick}
-use Rattle.octets.proofs.Number.{num-le, top, puts-whole}
+use Rattle.octets.proofs.Number.{num-le, top, puts-lay}
 use Rattle.octets.proofs.Region.{Lawful}
 use Rattle.mctp.specs.declared.TypeIC.{TypeIC}
-use Rattle.mctp.specs.Terms.{cookieNo, cookieValue, cookieOf}
+use Rattle.mctp.specs.Terms.{cookieNo, cookieValue}
 use Rattle.mctp.specs.Header.{bit, typeByte, typeOf}
 use Rattle.mctp.proofs.RoundTrip.{type-back}
 use Rattle.mctp.proofs.CookieLaws.{cookie-back, cookie-small}
 use Rattle.reassemble.specs.declared.State.{State}
 use Rattle.reassemble.specs.declared.State.the-variants.{Empty, Collecting, Done, HandleOut}
 use Rattle.reassemble.specs.declared.Reassembler.{Reassembler}
+use Rattle.reassemble.specs.Slot.{blankSlot, stateNo}
+use Rattle.state.specs.declared.Progress.{Progress}
 use Rattle.state.specs.Layout.{slotWidth}
-use Rattle.state.specs.Slot.{stateNo, issueNo, stateFrom, ownerTag, leadRow, restRow, slotRow, slotBytes, slotOf, SlotOk, slotCodec, progress, progressRow, progressOf, keyWord}
+use Rattle.state.specs.Slot.{issueNo, stateFrom, ownerTag, leadRow, restRow, slotRow, slotBytes, slotOf, SlotOk, ProgressOk, slotCodec, progress, progressRow, progressOf, keyWord}
 
 state-back : (s : State) → stateFrom (stateNo s) (issueNo s) ≡ s
 unfolding stateFrom pick
@@ -117,38 +119,49 @@ module _ (B : ℕ) (s : Reassembler) (ok : SlotOk B s) where
   unfolding slotBytes pack le part num
   slot-word = omega (arith, ok, state-small (s .state), bit-small (s .key .owner) 8)
 
-  -- its first byte
-  pub slot-state : field 0 1 (slotBytes s) ≡ stateNo (s .state)
-  slot-state = read .state
-
   -- its sequence and its length
   pub slot-progress : (seq len : ℕ) → seq ≡ field 5 1 (slotBytes s) → len ≡ field 6 2 (slotBytes s) → record { seq = seq; len = len } ≡ progressOf s
   slot-progress seq len p q = let r = read in let u = p ∙ r .seq in let v = q ∙ r .len in λ i. record { seq = u i; len = v i }
+
+pub slot-blank : (B : ℕ) → SlotOk B blankSlot
+slot-blank B = record {
+  dest = lit< tt;
+  source = lit< tt;
+  tag = lit< tt;
+  typ = lit< tt;
+  seq = lit< tt;
+  len = omega arith;
+  wide = lit< tt;
+  counter = lit< tt;
+  clock = lit< tt;
+  value = lit< tt;
+  issue = lit< tt;
+}
 
 pub slot-lawful : (B : ℕ) → Lawful (slotCodec B)
 slot-lawful B = record { long = slot-long; back = slot-back B }
 
 -- the two rows stored one after the other
-pub slot-rows : (s : Reassembler) (b : List ℕ) → length b ≡ slotWidth →
+pub slot-rows : (s : Reassembler) (b : List ℕ) →
     puts 8 (restRow (s .stamp .counter) (cookieNo (s .cookie)) (s .stamp .clock) (cookieValue (s .cookie)) (issueNo (s .state)))
     (puts 0 (leadRow (stateNo (s .state)) (s .key .dest .0) (s .key .source .0) (ownerTag (s .key)) (typeByte (s .typ) (s .ic)) (s .«next_seq») (s .len)) b)
-    ≡ slotBytes s
+    ≡ lay 0 (slotBytes s) b
 unfolding puts slotBytes
-slot-rows s b e = puts-whole (slotRow s) b (slot-long s ∙ sym e)
+slot-rows s b = puts-lay 0 (slotRow s) b
 
 -- a narrow store in a slot's bytes
-pub progress-bytes : (seq len : ℕ) (s : Reassembler) → puts 5 (progressRow seq len) (slotBytes s) ≡ slotBytes (progress seq len s)
-unfolding slotBytes pack le puts over
-progress-bytes seq len s = refl
+pub progress-bytes : (p : Progress) (s : Reassembler) → puts 5 (progressRow p) (slotBytes s) ≡ slotBytes (progress (p .seq) (p .len) s)
+unfolding slotBytes pack le puts lay
+progress-bytes p s = refl
 
-pub progress-ok : (B seq len : ℕ) (s : Reassembler) → seq < 4 → len ≤ B → B ≤ 65535 → SlotOk B s → SlotOk B (progress seq len s)
-progress-ok B seq len s h l w ok = record {
+pub progress-ok : (B : ℕ) (p : Progress) (s : Reassembler) → ProgressOk B p → B ≤ 65535 → SlotOk B s → SlotOk B (progress (p .seq) (p .len) s)
+progress-ok B p s k w ok = record {
   dest = ok .dest;
   source = ok .source;
   tag = ok .tag;
   typ = ok .typ;
-  seq = h;
-  len = l;
+  seq = k .seq;
+  len = k .len;
   wide = omega arith;
   counter = ok .counter;
   clock = ok .clock;

@@ -1,18 +1,22 @@
 -- What a store of one head, flow or slot makes of the stack: its own place changes, and every other keeps its bytes.
 use Prim.Native.Nat.{ℕ, _+_, _-_, _*_, _≤_, _<_}
-use native.Mathlib.Nat.{add-zero, zero-add}
 use native.Mathlib.Omega.{arith}
 use mathlib.Core.Path.{_≡_, refl, sym, ap, _∙_}
 use mathlib.Core.List.{List, [], _∷_, _++_}
-use lib.ListN.{length, getD, set, drop, take, take-append-drop}
-use Rattle.octets.specs.Bytes.{num, part, over, field}
+use borrow.Author.Tests.{ltb-true, ltb-false}
+use lib.Dec.{ltb}
+use lib.ListN.{length, getD, set, drop, take, take-append-drop, List·getD-eq-default}
+use lib.Seq.{set-out}
+use Rattle.octets.specs.Bytes.{part, over, lay, field}
 use Rattle.octets.specs.Region.{Codec, place, region, Regular, bytes}
-use Rattle.octets.proofs.Part.{part-same, part-below, part-add, part-part, length-over, drop-over, lent, lent-back}
+use Rattle.octets.proofs.Part.{part-same, part-below, part-add, length-over, drop-over, over-whole, lent, lent-back, lay-fits}
+use Rattle.octets.proofs.Bools.{bool-cases}
 use Rattle.octets.proofs.Region.{Lawful, place-is, region-length, region-get, regular-get, holds-as, holds-put, region-after, regular-after, region-before, regular-before, region-put, regular-put, regular-bytes}
 use Rattle.flows.specs.declared.Flow.{Flow}
 use Rattle.flows.specs.Codec.{flowWidth, flowCodec, flowBytes, flowOf, FlowOk}
 use Rattle.flows.specs.Table.{noFlow}
 use Rattle.flows.proofs.CodecLaws.{flow-long, flow-lawful}
+use Rattle.flows.proofs.TableLaws.{no-flow-ok}
 use Rattle.reassemble.specs.declared.Reassembler.{Reassembler}
 use Rattle.reassemble.specs.Slot.{blankSlot}
 use Rattle.state.specs.declared.Head.{Head}
@@ -22,7 +26,7 @@ use Rattle.state.specs.Head.{headCodec, headBytes, headOf, HeadOk}
 use Rattle.state.specs.Slot.{slotCodec, slotBytes, slotOf, SlotOk}
 use Rattle.state.specs.Stack.{Stack, stackOf, encode, Kept, Becomes, rehead, reslot, reflow, slotAt, flowAt}
 use Rattle.state.proofs.HeadLaws.{head-long, head-lawful}
-use Rattle.state.proofs.SlotLaws.{slot-long, slot-lawful}
+use Rattle.state.proofs.SlotLaws.{slot-long, slot-lawful, slot-blank}
 
 -- where flow i and slot i start
 abbrev pub flowPlace : ℕ → ℕ
@@ -51,24 +55,10 @@ module _ (z : Sizes) (b : List ℕ) where
   pub stays : Kept z b → Becomes z b b (stackOf z b)
   stays k = record { view = refl; kept = k; rest = refl }
 
--- the head is read from the front of the whole
-module _ (z : Sizes) (b : List ℕ) where
-  front : (k w : ℕ) → k + w ≤ headWidth → field k w (part 0 headWidth b) ≡ field k w b
-  front k w h = rw zero-add at (ap num (part-part 0 k w headWidth b h))
-
-  pub head-get : headOf b ≡ stackOf z b .head
-  unfolding stackOf headOf
-  head-get =
-      rw (
-        front 0 1 (omega arith),
-        front 1 1 (omega arith),
-        front 2 1 (omega arith),
-        front 4 4 (omega arith),
-        front 8 8 (omega arith),
-        front 16 8 (omega arith),
-        front 24 8 (omega arith),
-        front 32 8 (omega arith),
-      )
+  -- the head is what its block says
+  pub head-get : headOf (lentAs 0 headWidth b) ≡ stackOf z b .head
+  unfolding stackOf
+  head-get = ap headOf (lent 0 headWidth b)
 
 -- the bytes of slots are the same whatever a body holds
 bytes-any : (B : ℕ) (l : List Reassembler) → bytes (slotCodec 0) l ≡ bytes (slotCodec B) l
@@ -76,37 +66,65 @@ unfolding bytes
 bytes-any B [] = refl
 bytes-any B (s ∷ l) = ap (λ (t : List ℕ). slotBytes s ++ t) (bytes-any B l)
 
--- block i of a region that is regular: what it says, that it is that element's bytes, its ranges, and w of its bytes as a number
-module _ {A : Type 0} (C : Codec A) (n at : ℕ) (b : List ℕ) (d : A) (i : ℕ) (h : i < n) where
-  block-get : getD (region C n at b) i d ≡ C .dec (part (at + C .width * i) (C .width) b)
-  block-get = rw (← place-is (C .width) at i) (region-get C n at i b d h)
+-- element i of a region that is regular, d past its end
+module _ {A : Type 0} (C : Codec A) (n at : ℕ) (b : List ℕ) (d : A) (r : Regular C n at b) (i : ℕ) where
+  abbrev element : A
+  element = getD (region C n at b) i d
 
-  module _ (r : Regular C n at b) where
-    block-same : part (at + C .width * i) (C .width) b ≡ C .enc (getD (region C n at b) i d)
-    block-same = rw (block-get, ← place-is (C .width) at i) (regular-get C n at i b h r .same)
+  block-past : n ≤ i → element ≡ d
+  block-past h = List·getD-eq-default (region C n at b) d (rw (region-length C n at b) h)
 
-    block-ok : C .Ok (getD (region C n at b) i d)
-    block-ok = rw (block-get, ← place-is (C .width) at i) (regular-get C n at i b h r .ok)
+  block-get : i < n → element ≡ C .dec (part (at + C .width * i) (C .width) b)
+  block-get h = rw (← place-is (C .width) at i) (region-get C n at i b d h)
 
-    block-field : (j w : ℕ) → j + w ≤ C .width → field (at + C .width * i + j) w b ≡ field j w (C .enc (getD (region C n at b) i d))
-    block-field j w l = sym (rw block-same at (ap num (part-part (at + C .width * i) j w (C .width) b l)))
+  -- its block, as it is lent, is its bytes
+  block-lent : i < n → lentAs (at + C .width * i) (C .width) b ≡ C .enc element
+  block-lent h = lent (at + C .width * i) (C .width) b ∙ rw (block-get h, ← place-is (C .width) at i) (regular-get C n at i b h r .same)
 
-    block-first : (w : ℕ) → w ≤ C .width → field (at + C .width * i) w b ≡ field 0 w (C .enc (getD (region C n at b) i d))
-    block-first w l = rw add-zero at (block-field 0 w (omega arith))
+  -- and a number in it is one in its bytes
+  block-field : (j w : ℕ) → i < n → field j w (lentAs (at + C .width * i) (C .width) b) ≡ field j w (C .enc element)
+  block-field j w h = ap (λ (l : List ℕ). field j w l) (block-lent h)
 
-    -- read as r, where it is lent
-    block-read : (r : A) → r ≡ C .dec (lentAs (at + C .width * i) (C .width) b) → (r ≡ getD (region C n at b) i d) × C .Ok r
-    block-read r e =
-        let q : r ≡ getD (region C n at b) i d = e ∙ rw (lent (at + C .width * i) (C .width) b) (sym block-get) in
+  module _ (blank : C .Ok d) where
+    block-ok : C .Ok element
+    block-ok =
+        bool-cases (ltb i n)
+        (λ y. let h = ltb-true i n y in rw (block-get h, ← place-is (C .width) at i) (regular-get C n at i b h r .ok))
+        (λ e. rw (block-past (ltb-false i n e)) blank)
+
+    -- read as v, where it is lent
+    block-read : (v : A) → i < n → v ≡ C .dec (lentAs (at + C .width * i) (C .width) b) → (v ≡ element) × C .Ok v
+    block-read v h e =
+        let q : v ≡ element = e ∙ rw (lent (at + C .width * i) (C .width) b) (sym (block-get h)) in
         (q, rw q block-ok)
 
--- the block at `at` is x's bytes; lent, it comes back as f makes it, and those are y's bytes
-block-back : {A : Type 0} (C : Codec A) → Lawful C → (at : ℕ) (b : List ℕ) (x y : A) (f : List ℕ → List ℕ) (s : List ℕ) → at + C .width ≤ length b
-    → part at (C .width) b ≡ C .enc x → f (C .enc x) ≡ C .enc y → s ≡ f (lentAs at (C .width) b)
-    → backAs at (C .width) s b ≡ over at (C .enc y) b
-block-back C L at b x y f s l p q e =
-    let g : s ≡ C .enc y = e ∙ ap f (lent at (C .width) b ∙ p) ∙ q in
-    rw g (lent-back at (C .width) (C .enc y) b (L .long y) l)
+    -- past the end the blank element is read
+    blank-read : (v : A) → n ≤ i → v ≡ d → (v ≡ element) × C .Ok v
+    blank-read v h e = (e ∙ sym (block-past h), rw e blank)
+
+module _ {A : Type 0} (C : Codec A) (L : Lawful C) where
+  -- the block at `at` is x's bytes; lent, it comes back as f makes it, and those are y's bytes
+  block-back : (at : ℕ) (b : List ℕ) (x y : A) (f : List ℕ → List ℕ) (s : List ℕ) → at + C .width ≤ length b → lentAs at (C .width) b ≡ C .enc x
+      → f (C .enc x) ≡ C .enc y → s ≡ f (lentAs at (C .width) b) → backAs at (C .width) s b ≡ over at (C .enc y) b
+  block-back at b x y f s l p q e =
+      let g : s ≡ C .enc y = e ∙ ap f p ∙ q in
+      rw g (lent-back at (C .width) (C .enc y) b (L .long y) l)
+
+  -- an element's bytes laid over another's
+  block-whole : (x y : A) → lay 0 (C .enc y) (C .enc x) ≡ C .enc y
+  block-whole x y =
+      let p = L .long x in
+      let q = L .long y in
+      lay-fits 0 (C .enc y) (C .enc x) (omega arith) ∙ over-whole (C .width) (C .enc y) (C .enc x) q p
+
+pub head-whole : (x y : Head) → lay 0 (headBytes y) (headBytes x) ≡ headBytes y
+head-whole = block-whole headCodec head-lawful
+
+pub flow-whole : (x y : Flow) → lay 0 (flowBytes y) (flowBytes x) ≡ flowBytes y
+flow-whole = block-whole flowCodec flow-lawful
+
+pub slot-whole : (x y : Reassembler) → lay 0 (slotBytes y) (slotBytes x) ≡ slotBytes y
+slot-whole = block-whole (slotCodec 0) (slot-lawful 0)
 
 module _ (z : Sizes) (b : List ℕ) (k : Kept z b) where
   head-put : (h : Head) → HeadOk h → Becomes z b (over 0 (headBytes h) b) (rehead h (stackOf z b))
@@ -184,47 +202,71 @@ module _ (z : Sizes) (b : List ℕ) (k : Kept z b) where
       (rw (← p) (regular-put C L s ok b (z .slots) slotsAt i h (omega arith) (k .slots)))
 
   -- what a read of a block is
-  module _ (i : ℕ) (h : i < z .slots) where
-    pub slot-read : (r : Reassembler) → r ≡ slotOf (lentAs (slotPlace i) slotWidth b) → (r ≡ slotAt i (stackOf z b)) × SlotOk (z .body) r
-    unfolding stackOf
-    slot-read = block-read (slotCodec (z .body)) (z .slots) slotsAt b blankSlot i h (k .slots)
-
-    slot-same : part (slotPlace i) slotWidth b ≡ slotBytes (slotAt i (stackOf z b))
-    unfolding stackOf
-    slot-same = block-same (slotCodec (z .body)) (z .slots) slotsAt b blankSlot i h (k .slots)
-
+  module _ (i : ℕ) where
     pub slot-ok : SlotOk (z .body) (slotAt i (stackOf z b))
     unfolding stackOf
-    slot-ok = block-ok (slotCodec (z .body)) (z .slots) slotsAt b blankSlot i h (k .slots)
+    slot-ok = block-ok (slotCodec (z .body)) (z .slots) slotsAt b blankSlot (k .slots) i (slot-blank (z .body))
 
-    pub slot-first : (w : ℕ) → w ≤ slotWidth → field (slotPlace i) w b ≡ field 0 w (slotBytes (slotAt i (stackOf z b)))
+    pub slot-past : z .slots ≤ i → slotAt i (stackOf z b) ≡ blankSlot
     unfolding stackOf
-    slot-first = block-first (slotCodec (z .body)) (z .slots) slotsAt b blankSlot i h (k .slots)
+    slot-past = block-past (slotCodec (z .body)) (z .slots) slotsAt b blankSlot (k .slots) i
 
-    pub slot-field : (j w : ℕ) → j + w ≤ slotWidth → field (slotPlace i + j) w b ≡ field j w (slotBytes (slotAt i (stackOf z b)))
+    slot-lent : i < z .slots → lentAs (slotPlace i) slotWidth b ≡ slotBytes (slotAt i (stackOf z b))
     unfolding stackOf
-    slot-field = block-field (slotCodec (z .body)) (z .slots) slotsAt b blankSlot i h (k .slots)
+    slot-lent = block-lent (slotCodec (z .body)) (z .slots) slotsAt b blankSlot (k .slots) i
 
-  module _ (i : ℕ) (h : i < flowCount) where
-    pub flow-read : (r : Flow) → r ≡ flowOf (lentAs (flowPlace i) flowWidth b) → (r ≡ flowAt i (stackOf z b)) × FlowOk r
+    pub slot-field : (j w : ℕ) → i < z .slots → field j w (lentAs (slotPlace i) slotWidth b) ≡ field j w (slotBytes (slotAt i (stackOf z b)))
     unfolding stackOf
-    flow-read = block-read flowCodec flowCount flowsAt b noFlow i h (k .flows)
+    slot-field = block-field (slotCodec (z .body)) (z .slots) slotsAt b blankSlot (k .slots) i
 
-    flow-same : part (flowPlace i) flowWidth b ≡ flowBytes (flowAt i (stackOf z b))
+    pub slot-read : (r : Reassembler) → i < z .slots → r ≡ slotOf (lentAs (slotPlace i) slotWidth b) → (r ≡ slotAt i (stackOf z b)) × SlotOk (z .body) r
     unfolding stackOf
-    flow-same = block-same flowCodec flowCount flowsAt b noFlow i h (k .flows)
+    slot-read = block-read (slotCodec (z .body)) (z .slots) slotsAt b blankSlot (k .slots) i (slot-blank (z .body))
+
+    pub slot-none : (r : Reassembler) → z .slots ≤ i → r ≡ blankSlot → (r ≡ slotAt i (stackOf z b)) × SlotOk (z .body) r
+    unfolding stackOf
+    slot-none = blank-read (slotCodec (z .body)) (z .slots) slotsAt b blankSlot (k .slots) i (slot-blank (z .body))
+
+    -- a store past the last slot is none
+    pub slot-stays : (s : Reassembler) → z .slots ≤ i → Becomes z b b (reslot i s (stackOf z b))
+    slot-stays s h =
+        let n = slots-length z b in
+        let e = set-out (stackOf z b .slots) i s (omega arith) in
+        rw e (stays z b k)
 
     pub flow-ok : FlowOk (flowAt i (stackOf z b))
     unfolding stackOf
-    flow-ok = block-ok flowCodec flowCount flowsAt b noFlow i h (k .flows)
+    flow-ok = block-ok flowCodec flowCount flowsAt b noFlow (k .flows) i no-flow-ok
 
-    pub flow-first : (w : ℕ) → w ≤ flowWidth → field (flowPlace i) w b ≡ field 0 w (flowBytes (flowAt i (stackOf z b)))
+    pub flow-past : flowCount ≤ i → flowAt i (stackOf z b) ≡ noFlow
     unfolding stackOf
-    flow-first = block-first flowCodec flowCount flowsAt b noFlow i h (k .flows)
+    flow-past = block-past flowCodec flowCount flowsAt b noFlow (k .flows) i
 
-  head-same : part 0 headWidth b ≡ headBytes (stackOf z b .head)
+    flow-lent : i < flowCount → lentAs (flowPlace i) flowWidth b ≡ flowBytes (flowAt i (stackOf z b))
+    unfolding stackOf
+    flow-lent = block-lent flowCodec flowCount flowsAt b noFlow (k .flows) i
+
+    pub flow-field : (j w : ℕ) → i < flowCount → field j w (lentAs (flowPlace i) flowWidth b) ≡ field j w (flowBytes (flowAt i (stackOf z b)))
+    unfolding stackOf
+    flow-field = block-field flowCodec flowCount flowsAt b noFlow (k .flows) i
+
+    pub flow-read : (r : Flow) → i < flowCount → r ≡ flowOf (lentAs (flowPlace i) flowWidth b) → (r ≡ flowAt i (stackOf z b)) × FlowOk r
+    unfolding stackOf
+    flow-read = block-read flowCodec flowCount flowsAt b noFlow (k .flows) i no-flow-ok
+
+    pub flow-none : (r : Flow) → flowCount ≤ i → r ≡ noFlow → (r ≡ flowAt i (stackOf z b)) × FlowOk r
+    unfolding stackOf
+    flow-none = blank-read flowCodec flowCount flowsAt b noFlow (k .flows) i no-flow-ok
+
+    pub flow-stays : (f : Flow) → flowCount ≤ i → Becomes z b b (reflow i f (stackOf z b))
+    flow-stays f h =
+        let n = flows-length z b in
+        let e = set-out (stackOf z b .flows) i f (omega arith) in
+        rw e (stays z b k)
+
+  head-lent : lentAs 0 headWidth b ≡ headBytes (stackOf z b .head)
   unfolding stackOf
-  head-same = k .head .same
+  head-lent = lent 0 headWidth b ∙ k .head .same
 
   pub head-ok : HeadOk (stackOf z b .head)
   unfolding stackOf
@@ -236,21 +278,21 @@ module _ (z : Sizes) (b : List ℕ) (k : Kept z b) where
         → Becomes z b (backAs 0 headWidth s b) (rehead h (stackOf z b))
     head-store h q ok e =
         let l = k .long in
-        rw (block-back headCodec head-lawful 0 b (stackOf z b .head) h f s (omega arith) head-same q e) (head-put h ok)
+        rw (block-back headCodec head-lawful 0 b (stackOf z b .head) h f s (omega arith) head-lent q e) (head-put h ok)
 
     pub flow-store : (i : ℕ) (x : Flow) (h : i < flowCount) → f (flowBytes (flowAt i (stackOf z b))) ≡ flowBytes x → FlowOk x
         → s ≡ f (lentAs (flowPlace i) flowWidth b)
         → Becomes z b (backAs (flowPlace i) flowWidth s b) (reflow i x (stackOf z b))
     flow-store i x h q ok e =
         let l = k .long in
-        rw (block-back flowCodec flow-lawful (flowPlace i) b (flowAt i (stackOf z b)) x f s (omega arith) (flow-same i h) q e) (flow-put i x h ok)
+        rw (block-back flowCodec flow-lawful (flowPlace i) b (flowAt i (stackOf z b)) x f s (omega arith) (flow-lent i h) q e) (flow-put i x h ok)
 
     pub slot-store : (i : ℕ) (x : Reassembler) (h : i < z .slots) → f (slotBytes (slotAt i (stackOf z b))) ≡ slotBytes x → SlotOk (z .body) x
         → s ≡ f (lentAs (slotPlace i) slotWidth b)
         → Becomes z b (backAs (slotPlace i) slotWidth s b) (reslot i x (stackOf z b))
     slot-store i x h q ok e =
         let l = k .long in
-        rw (block-back (slotCodec (z .body)) (slot-lawful (z .body)) (slotPlace i) b (slotAt i (stackOf z b)) x f s (omega arith) (slot-same i h) q e) (slot-put i x h ok)
+        rw (block-back (slotCodec (z .body)) (slot-lawful (z .body)) (slotPlace i) b (slotAt i (stackOf z b)) x f s (omega arith) (slot-lent i h) q e) (slot-put i x h ok)
 
   -- the stack gives the bytes
   encoded : encode (stackOf z b) ≡ take (size z) b

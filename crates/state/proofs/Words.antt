@@ -12,8 +12,9 @@ use Rattle.mctp.proofs.Keys.{same-key-is, same-key-refl}
 use Rattle.reassemble.specs.declared.State.{State}
 use Rattle.reassemble.specs.declared.State.the-variants.{Empty, Collecting, Done, HandleOut}
 use Rattle.reassemble.specs.declared.Reassembler.{Reassembler}
-use Rattle.reassemble.specs.Slot.{emptyState, isEmpty, collectsIn, collects}
-use Rattle.state.specs.Slot.{stateNo, wordOf, keyWord, ownerTag, SlotOk}
+use Rattle.reassemble.specs.Slot.{stateNo, isEmpty, collectsIn, collects}
+use Rattle.reassemble.proofs.States.{empty-zero}
+use Rattle.state.specs.Slot.{wordOf, keyWord, ownerTag, SlotOk}
 use Rattle.state.proofs.SlotLaws.{owner-back, tag-back}
 
 -- the ranges of a key on the wire
@@ -56,11 +57,5 @@ module _ (a k : Key) (x : KeyOk a) (y : KeyOk k) where
 pub word-collects : (B : ℕ) (s : Reassembler) (k : Key) → SlotOk B s → KeyOk k → eqb (keyWord s) (wordOf 1 k) ≡ collects k s
 word-collects B s k ok y = word-in (s .key) k (record { dest = ok .dest; source = ok .source; tag = ok .tag }) y (s .state)
 
-empty-in : (s : State) → eqb (stateNo s) 0 ≡ emptyState s
-empty-in Empty = refl
-empty-in Collecting = refl
-empty-in Done = refl
-empty-in (HandleOut n) = refl
-
 pub state-empty : (s : Reassembler) → eqb (stateNo (s .state)) 0 ≡ isEmpty s
-state-empty s = empty-in (s .state)
+state-empty s = empty-zero (s .state)

@@ -1,5 +1,6 @@
 -- What the stack has once, in 40 bytes.
--- Each update changes the fields that it names (`headWith`). Leans on `octets` for numbers in bytes, on `stamp` for the clock.
+-- Each update changes the fields that it names (`headWith`).
+-- Leans on `octets` for numbers in bytes, on `stamp` for the clock.
 use Prim.Native.Nat.{ℕ, _+_, _%_, _^_, _<_, _≤_}
 use mathlib.Core.List.{List, [], _∷_}
 use Rattle.octets.specs.Bytes.{field, pack}

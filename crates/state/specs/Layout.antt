@@ -1,5 +1,6 @@
--- Where the parts of the state lie; the code's constants say the same. The number of slots moves the end alone.
--- A head, 64 flow places, then the slots. Leans on `flows` for a place's width.
+-- Where the parts of the state lie: a head, 64 flow places, then the slots; the code's constants say the same.
+-- The number of slots moves the end alone.
+-- Leans on `flows` for a place's width.
 use Prim.Native.Nat.{ℕ, _+_, _*_, _≤_}
 use Rattle.flows.specs.Codec.{flowWidth}
 use Rattle.state.specs.declared.Sizes.{Sizes}

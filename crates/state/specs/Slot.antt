@@ -1,4 +1,5 @@
 -- A slot in 40 bytes: its state, then its key in wire order, so that one number of 4 bytes tells what it collects.
+-- `SlotOk` are the ranges that a slot's fields always have.
 -- Leans on `octets` for numbers in bytes, on `mctp` for keys and types, on `reassemble` for the record.
 use Prim.Native.Nat.{ℕ, _+_, _*_, _/_, _%_, _^_, _<_, _≤_}
 use mathlib.Core.List.{List, [], _∷_, _++_}
@@ -12,14 +13,9 @@ use Rattle.mctp.specs.Header.{bit, typeByte, typeOf}
 use Rattle.reassemble.specs.declared.State.{State}
 use Rattle.reassemble.specs.declared.State.the-variants.{Empty, Collecting, Done, HandleOut}
 use Rattle.reassemble.specs.declared.Reassembler.{Reassembler}
+use Rattle.reassemble.specs.Slot.{stateNo}
 use Rattle.state.specs.declared.Progress.{Progress}
 use Rattle.state.specs.Layout.{slotWidth}
-
-abbrev pub stateNo : State → ℕ
-stateNo Empty = 0
-stateNo Collecting = 1
-stateNo Done = 2
-stateNo (HandleOut n) = 3
 
 abbrev pub issueNo : State → ℕ
 issueNo Empty = 0
@@ -83,8 +79,13 @@ pub record SlotOk (B : ℕ) (s : Reassembler) : Type 0 where
 abbrev pub slotCodec : ℕ → Codec Reassembler
 slotCodec B = record { width = slotWidth; enc = slotBytes; dec = slotOf; Ok = SlotOk B }
 
-abbrev pub progressRow : ℕ → ℕ → List (ℕ × ℕ)
-progressRow seq len = (1, seq) ∷ (2, len) ∷ []
+abbrev pub progressRow : Progress → List (ℕ × ℕ)
+progressRow p = (1, p .seq) ∷ (2, p .len) ∷ []
+
+-- the ranges that a slot's progress always has
+pub record ProgressOk (B : ℕ) (p : Progress) : Type 0 where
+  pub seq : p .seq < 4
+  pub len : p .len ≤ B
 
 -- the slot with another sequence to expect and another length
 abbrev pub progress : ℕ → ℕ → Reassembler → Reassembler

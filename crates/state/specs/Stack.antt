@@ -1,7 +1,7 @@
 -- The stack that a buffer holds: a head, a list of flow places, a list of slots. `Kept` is the one premise of every call: earlier calls gave these bytes.
 -- `Becomes` says what a store makes: the stack that is then held, and what lies past the state as it was.
 -- Leans on `Layout`, `Head`, `Slot` and on `flows` for a place's codec; on `octets` for blocks of equal width.
-use Prim.Native.Nat.{ℕ, _+_, _*_, _≤_, _<_}
+use Prim.Native.Nat.{ℕ, _+_, _≤_}
 use mathlib.Core.Path.{_≡_}
 use mathlib.Core.List.{List, _++_}
 use lib.ListN.{length, getD, set, drop}

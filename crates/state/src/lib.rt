@@ -2,14 +2,13 @@
 // A head of 40 bytes, 64 flow places of 32, then the slots of 40, last, so that their number moves no offset.
 // Leans on `octets` for numbers in bytes and blocks, on `flows` and `reassemble` for the records. Definitions: specs/Layout.antt, Head.antt, Slot.antt, Stack.antt.
 ghost use mathlib.Core.Path.{_≡_};
-ghost use mathlib.Core.List.{_∷_, [], _++_};
-ghost use Prim.Native.Nat.{_+_, _≤_, _<_, _^_};
-ghost use lib.ListN.{length, replicate, drop};
-ghost use Rattle.octets.specs.Bytes.{puts};
+ghost use Prim.Native.Nat.{_+_, _%_, _≤_, _<_, _^_};
+ghost use lib.ListN.{replicate};
+ghost use Rattle.octets.specs.Bytes.{lay, puts};
+ghost use Rattle.reassemble.specs.Slot.{stateNo};
 ghost use Rattle.flows.specs.Codec.{FlowOk, flowWord};
-ghost use Rattle.state.specs.Layout.{headWidth, slotWidth, flowCount};
 ghost use Rattle.state.specs.Head.{headOf, headBytes, HeadOk, headWith, reowned, renowed, recounted, replanned, retagged, resequenced, reissued};
-ghost use Rattle.state.specs.Slot.{stateNo, issueNo, stateFrom, ownerTag, slotOf, slotBytes, leadRow, restRow, progressRow, SlotOk, progress, progressOf, keyWord};
+ghost use Rattle.state.specs.Slot.{issueNo, stateFrom, ownerTag, slotOf, slotBytes, leadRow, restRow, progressRow, SlotOk, ProgressOk, progress, progressOf, keyWord};
 ghost use Rattle.state.specs.Stack.{Kept, Becomes, stackOf, slotAt, flowAt, reslot, reflow, rehead};
 use flows::Flow;
 use mctp::Cookie;
@@ -67,8 +66,8 @@ pub struct Head {
 
 impl Head {
     fn with(self, own: Eid, stamp: EventStamp, planned: u64, tag: u8, seq: u8) -> Head
-        requires { ⌜ HeadOk self × (planned ≤ stamp .clock + 100) × (tag < 8) × (seq < 4) ⌝ }
-        ensures { λ r. ⌜ (r ≡ headWith own stamp planned tag seq (self .issue) self) × HeadOk r ⌝ }
+        requires { ⌜ HeadOk self × (tag < 8) × (seq < 4) ⌝ }
+        ensures { λ r. ⌜ (r ≡ headWith own stamp planned tag seq (self .issue) self) × ((planned ≤ stamp .clock + 100) → HeadOk r) ⌝ }
     {
         Head {
             own_eid: own,
@@ -91,19 +90,22 @@ impl Head {
 
     // Another stamp of the last event, and another planned check.
     pub fn with_clock(self, stamp: EventStamp, planned: u64) -> Head
-        requires { ⌜ HeadOk self × (planned ≤ stamp .clock + 100) ⌝ }
-        ensures { λ r. ⌜ (r ≡ replanned planned (renowed stamp self)) × HeadOk r ⌝ }
+        requires { ⌜ HeadOk self ⌝ }
+        ensures stamped { λ r. ⌜ r ≡ replanned planned (renowed stamp self) ⌝ }
+        ensures sound { λ r. ⌜ ((planned ≤ stamp .clock + 100) → HeadOk r) ⌝ }
     {
         let own = self.own_eid;
         self.with(own, stamp, planned, self.next_tag, self.next_seq)
     }
 
-    pub fn with_tag(self, tag: u8) -> Head
-        requires { ⌜ HeadOk self × (tag < 8) ⌝ }
-        ensures { λ r. ⌜ (r ≡ retagged tag self) × HeadOk r ⌝ }
+    // The tag counter goes up by 1 modulo 8.
+    pub fn with_next_tag(self) -> Head
+        requires { ⌜ HeadOk self ⌝ }
+        ensures { λ r. ⌜ (r ≡ retagged ((self .«next_tag» % 8 + 1) % 8) self) × HeadOk r ⌝ }
     {
         let own = self.own_eid;
         let stamp = self.now;
+        let tag = (self.next_tag % 8 + 1) % 8;
         self.with(own, stamp, self.next_timeout, tag, self.next_seq)
     }
 
@@ -121,8 +123,7 @@ impl Head {
 
 // ---- a head in 40 bytes
 
-pub fn read_head(b: &[u8]) -> Head
-    requires { ⌜ headWidth ≤ length (now b) ⌝ }
+fn read_head(b: &[u8]) -> Head
     ensures { λ r. ⌜ r ≡ headOf (now (b .entry)) ⌝ }
 {
     let own = Eid(get1(b, 0));
@@ -149,8 +150,7 @@ pub fn read_head(b: &[u8]) -> Head
 }
 
 fn write_head(b: &mut [u8], h: Head)
-    requires { ⌜ length (now b) ≡ headWidth ⌝ }
-    ensures { λ _. ⌜ now (b .exit) ≡ headBytes h ⌝ }
+    ensures { λ _. ⌜ now (b .exit) ≡ lay 0 (headBytes h) (now (b .entry)) ⌝ }
 {
     put1(b, 0, h.own_eid.0);
     put1(b, 1, h.next_tag);
@@ -164,15 +164,10 @@ fn write_head(b: &mut [u8], h: Head)
 
 // ---- a slot in 40 bytes
 
-fn state_no(s: State) -> u8
-    ensures { λ r. ⌜ r ≡ stateNo s ⌝ }
-{
-    match s {
-        State::Empty => 0,
-        State::Collecting => 1,
-        State::Done => 2,
-        State::HandleOut(_) => 3,
-    }
+// What a middle packet of a message looks at.
+pub struct Progress {
+    pub seq: u8,
+    pub len: usize,
 }
 
 fn issue_no(s: State) -> u64
@@ -208,24 +203,19 @@ fn owner_tag(key: Key) -> u8
     mctp::bit_of(key.owner, 8) + key.tag.0
 }
 
-pub fn read_slot(b: &[u8]) -> Reassembler
-    requires { ⌜ slotWidth ≤ length (now b) ⌝ }
+fn read_slot(b: &[u8]) -> Reassembler
     ensures { λ r. ⌜ r ≡ slotOf (now (b .entry)) ⌝ }
 {
-    let n = get1(b, 0);
     let dest = Eid(get1(b, 1));
     let source = Eid(get1(b, 2));
     let o = get1(b, 3);
-    let kind = get1(b, 4);
     let seq = get1(b, 5);
     let len = get2(b, 6);
     let counter = get4(b, 8);
-    let has = get1(b, 12);
     let clock = get8(b, 16);
-    let value = get8(b, 24);
-    let issue = get8(b, 32);
-    let state = state_from(n, issue);
-    let cookie = Cookie::of(has, value);
+    let state = state_from(get1(b, 0), get8(b, 32));
+    let cookie = Cookie::of(get1(b, 12), get8(b, 24));
+    let t = mctp::decode_type_ic(get1(b, 4));
     let tag = TagValue(o % 8);
     let key = Key {
         source: source,
@@ -233,7 +223,6 @@ pub fn read_slot(b: &[u8]) -> Reassembler
         owner: o / 8 == 1,
         tag: tag,
     };
-    let t = mctp::decode_type_ic(kind);
     let typ = t.typ;
     let ic = t.ic;
     let stamp = EventStamp {
@@ -253,7 +242,6 @@ pub fn read_slot(b: &[u8]) -> Reassembler
 }
 
 fn write_lead(b: &mut [u8], state: u8, dest: u8, source: u8, from: u8, kind: u8, seq: u8, len: u16)
-    requires { ⌜ length (now b) ≡ slotWidth ⌝ }
     ensures { λ _. ⌜ now (b .exit) ≡ puts 0 (leadRow state dest source from kind seq len) (now (b .entry)) ⌝ }
 {
     put1(b, 0, state);
@@ -266,7 +254,6 @@ fn write_lead(b: &mut [u8], state: u8, dest: u8, source: u8, from: u8, kind: u8,
 }
 
 fn write_rest(b: &mut [u8], counter: u32, has: u32, clock: u64, value: u64, issue: u64)
-    requires { ⌜ length (now b) ≡ slotWidth ⌝ }
     ensures { λ _. ⌜ now (b .exit) ≡ puts 8 (restRow counter has clock value issue) (now (b .entry)) ⌝ }
 {
     put4(b, 8, counter);
@@ -276,9 +263,9 @@ fn write_rest(b: &mut [u8], counter: u32, has: u32, clock: u64, value: u64, issu
     put8(b, 32, issue);
 }
 
-pub fn write_slot(b: &mut [u8], s: Reassembler)
-    requires { ⌜ (length (now b) ≡ slotWidth) × (s .key .tag .0 < 8) × (s .len < 2 ^ 16) ⌝ }
-    ensures { λ _. ⌜ now (b .exit) ≡ slotBytes s ⌝ }
+fn write_slot(b: &mut [u8], s: Reassembler)
+    requires { ⌜ (s .key .tag .0 < 8) × (s .len < 2 ^ 16) ⌝ }
+    ensures { λ _. ⌜ now (b .exit) ≡ lay 0 (slotBytes s) (now (b .entry)) ⌝ }
 {
     let state = s.state;
     let c = s.cookie;
@@ -287,7 +274,7 @@ pub fn write_slot(b: &mut [u8], s: Reassembler)
     let kind = mctp::encode_type_ic(s.typ, s.ic);
     write_lead(
         b,
-        state_no(state),
+        s.phase(),
         k.dest.0,
         k.source.0,
         owner_tag(k),
@@ -305,12 +292,12 @@ pub fn write_slot(b: &mut [u8], s: Reassembler)
     );
 }
 
-fn write_progress(b: &mut [u8], seq: u8, len: u16)
-    requires { ⌜ length (now b) ≡ slotWidth ⌝ }
-    ensures { λ _. ⌜ now (b .exit) ≡ puts 5 (progressRow seq len) (now (b .entry)) ⌝ }
+fn write_progress(b: &mut [u8], p: Progress)
+    requires { ⌜ p .len < 2 ^ 16 ⌝ }
+    ensures { λ _. ⌜ now (b .exit) ≡ puts 5 (progressRow p) (now (b .entry)) ⌝ }
 {
-    put1(b, 5, seq);
-    put2(b, 6, len);
+    put1(b, 5, p.seq);
+    put2(b, 6, p.len as u16);
 }
 
 // ---- the state
@@ -319,31 +306,30 @@ pub fn head_at(state: &[u8], sizes: Sizes) -> Head
     requires { ⌜ Kept sizes (now state) ⌝ }
     ensures { λ r. ⌜ (r ≡ stackOf sizes (now (state .entry)) .head) × HeadOk r ⌝ }
 {
-    read_head(state)
+    read_head(&state[0..HEAD_WIDTH])
 }
 
 pub fn put_head(state: &mut [u8], sizes: Sizes, h: Head)
     requires { ⌜ Kept sizes (now state) × HeadOk h ⌝ }
     ensures { λ _. ⌜ Becomes sizes (now (state .entry)) (now (state .exit)) (rehead h (stackOf sizes (now (state .entry)))) ⌝ }
 {
-    let at = 0;
-    let end = at + HEAD_WIDTH;
-    write_head(&mut state[at..end], h);
+    write_head(&mut state[0..HEAD_WIDTH], h);
 }
 
 pub fn own_eid(state: &[u8], sizes: Sizes) -> Eid
     requires { ⌜ Kept sizes (now state) ⌝ }
     ensures { λ r. ⌜ r ≡ stackOf sizes (now (state .entry)) .head .«own_eid» ⌝ }
 {
-    Eid(get1(state, 0))
+    Eid(get1(&state[0..HEAD_WIDTH], 0))
 }
 
 pub fn now_at(state: &[u8], sizes: Sizes) -> EventStamp
     requires { ⌜ Kept sizes (now state) ⌝ }
     ensures { λ r. ⌜ r ≡ stackOf sizes (now (state .entry)) .head .now ⌝ }
 {
-    let counter = get4(state, 4);
-    let clock = get8(state, 8);
+    let w = &state[0..HEAD_WIDTH];
+    let counter = get4(w, 4);
+    let clock = get8(w, 8);
     EventStamp {
         clock: clock,
         counter: counter,
@@ -355,83 +341,75 @@ pub fn put_counter(state: &mut [u8], sizes: Sizes, counter: u32)
     requires { ⌜ Kept sizes (now state) ⌝ }
     ensures { λ _. ⌜ Becomes sizes (now (state .entry)) (now (state .exit)) (rehead (recounted counter (stackOf sizes (now (state .entry)) .head)) (stackOf sizes (now (state .entry)))) ⌝ }
 {
-    let at = 0;
-    let end = at + HEAD_WIDTH;
-    write_counter(&mut state[at..end], counter);
-}
-
-fn write_counter(b: &mut [u8], counter: u32)
-    requires { ⌜ length (now b) ≡ headWidth ⌝ }
-    ensures { λ _. ⌜ now (b .exit) ≡ puts 4 ((4, counter) ∷ []) (now (b .entry)) ⌝ }
-{
-    put4(b, 4, counter);
+    put4(&mut state[0..HEAD_WIDTH], 4, counter);
 }
 
 pub fn issue_at(state: &[u8], sizes: Sizes) -> u64
     requires { ⌜ Kept sizes (now state) ⌝ }
     ensures { λ r. ⌜ r ≡ stackOf sizes (now (state .entry)) .head .issue ⌝ }
 {
-    get8(state, 24)
+    get8(&state[0..HEAD_WIDTH], 24)
 }
 
 pub fn put_issue(state: &mut [u8], sizes: Sizes, issue: u64)
     requires { ⌜ Kept sizes (now state) ⌝ }
     ensures { λ _. ⌜ Becomes sizes (now (state .entry)) (now (state .exit)) (rehead (reissued issue (stackOf sizes (now (state .entry)) .head)) (stackOf sizes (now (state .entry)))) ⌝ }
 {
-    let at = 0;
-    let end = at + HEAD_WIDTH;
-    write_issue(&mut state[at..end], issue);
+    put8(&mut state[0..HEAD_WIDTH], 24, issue);
 }
 
-fn write_issue(b: &mut [u8], issue: u64)
-    requires { ⌜ length (now b) ≡ headWidth ⌝ }
-    ensures { λ _. ⌜ now (b .exit) ≡ puts 24 ((8, issue) ∷ []) (now (b .entry)) ⌝ }
-{
-    put8(b, 24, issue);
-}
-
+// Slot i; past the last, an empty one.
 pub fn slot_at(state: &[u8], sizes: Sizes, i: usize) -> Reassembler
-    requires { ⌜ Kept sizes (now state) × (i < sizes .slots) ⌝ }
+    requires { ⌜ Kept sizes (now state) ⌝ }
     ensures { λ r. ⌜ (r ≡ slotAt i (stackOf sizes (now (state .entry)))) × SlotOk (sizes .body) r ⌝ }
 {
+    if sizes.slots <= i {
+        return reassemble::blank();
+    }
     let at = SLOTS_AT + SLOT_WIDTH * i;
     let end = at + SLOT_WIDTH;
     read_slot(&state[at..end])
 }
 
+// Past the last slot nothing is stored.
 pub fn put_slot(state: &mut [u8], sizes: Sizes, i: usize, s: Reassembler)
-    requires { ⌜ Kept sizes (now state) × (i < sizes .slots) × SlotOk (sizes .body) s ⌝ }
+    requires { ⌜ Kept sizes (now state) × SlotOk (sizes .body) s ⌝ }
     ensures { λ _. ⌜ Becomes sizes (now (state .entry)) (now (state .exit)) (reslot i s (stackOf sizes (now (state .entry)))) ⌝ }
 {
+    if sizes.slots <= i {
+        return;
+    }
     let at = SLOTS_AT + SLOT_WIDTH * i;
     let end = at + SLOT_WIDTH;
     write_slot(&mut state[at..end], s);
 }
 
 // A slot that goes on collecting: sequence and length alone.
-pub fn put_progress(state: &mut [u8], sizes: Sizes, i: usize, seq: u8, len: usize)
-    requires { ⌜ Kept sizes (now state) × (i < sizes .slots) × (seq < 4) × (len ≤ sizes .body) ⌝ }
-    ensures { λ _. ⌜ Becomes sizes (now (state .entry)) (now (state .exit)) (reslot i (progress seq len (slotAt i (stackOf sizes (now (state .entry))))) (stackOf sizes (now (state .entry)))) ⌝ }
+pub fn put_progress(state: &mut [u8], sizes: Sizes, i: usize, p: Progress)
+    requires { ⌜ Kept sizes (now state) × ProgressOk (sizes .body) p ⌝ }
+    ensures { λ _. ⌜ Becomes sizes (now (state .entry)) (now (state .exit)) (reslot i (progress (p .seq) (p .len) (slotAt i (stackOf sizes (now (state .entry))))) (stackOf sizes (now (state .entry)))) ⌝ }
 {
+    if sizes.slots <= i {
+        return;
+    }
     let at = SLOTS_AT + SLOT_WIDTH * i;
     let end = at + SLOT_WIDTH;
-    write_progress(&mut state[at..end], seq, len as u16);
-}
-
-// What a middle packet of a message looks at.
-pub struct Progress {
-    pub seq: u8,
-    pub len: usize,
+    write_progress(&mut state[at..end], p);
 }
 
 // The sequence that a slot expects, and how much it holds.
 pub fn progress_at(state: &[u8], sizes: Sizes, i: usize) -> Progress
-    requires { ⌜ Kept sizes (now state) × (i < sizes .slots) ⌝ }
-    ensures { λ r. ⌜ (r ≡ progressOf (slotAt i (stackOf sizes (now (state .entry))))) × (r .len ≤ sizes .body) ⌝ }
+    requires { ⌜ Kept sizes (now state) ⌝ }
+    ensures { λ r. ⌜ (r ≡ progressOf (slotAt i (stackOf sizes (now (state .entry))))) × ProgressOk (sizes .body) r ⌝ }
 {
+    if sizes.slots <= i {
+        return Progress { seq: 0, len: 0 };
+    }
     let at = SLOTS_AT + SLOT_WIDTH * i;
-    let seq = get1(state, at + 5);
-    let len = get2(state, at + 6);
+    let end = at + SLOT_WIDTH;
+    let w = &state[at..end];
+    let seq = get1(w, 5);
+    let len = get2(w, 6);
     Progress {
         seq: seq,
         len: len as usize,
@@ -440,33 +418,46 @@ pub fn progress_at(state: &[u8], sizes: Sizes, i: usize) -> Progress
 
 // A slot's state and key as one number, in wire order.
 pub fn word_at(state: &[u8], sizes: Sizes, i: usize) -> u32
-    requires { ⌜ Kept sizes (now state) × (i < sizes .slots) ⌝ }
+    requires { ⌜ Kept sizes (now state) ⌝ }
     ensures { λ r. ⌜ r ≡ keyWord (slotAt i (stackOf sizes (now (state .entry)))) ⌝ }
 {
-    get4(state, SLOTS_AT + SLOT_WIDTH * i)
+    if sizes.slots <= i {
+        return 0;
+    }
+    let at = SLOTS_AT + SLOT_WIDTH * i;
+    let end = at + SLOT_WIDTH;
+    get4(&state[at..end], 0)
 }
 
-// A slot's state alone, as its number.
+// A slot's state alone, as its number: the lowest byte of that.
 pub fn state_at(state: &[u8], sizes: Sizes, i: usize) -> u8
-    requires { ⌜ Kept sizes (now state) × (i < sizes .slots) ⌝ }
+    requires { ⌜ Kept sizes (now state) ⌝ }
     ensures { λ r. ⌜ r ≡ stateNo (slotAt i (stackOf sizes (now (state .entry))) .state) ⌝ }
 {
-    get1(state, SLOTS_AT + SLOT_WIDTH * i)
+    (word_at(state, sizes, i) % 256) as u8
 }
 
+// The flow at place i; past the last, none.
 pub fn flow_at(state: &[u8], sizes: Sizes, i: usize) -> Flow
-    requires { ⌜ Kept sizes (now state) × (i < flowCount) ⌝ }
+    requires { ⌜ Kept sizes (now state) ⌝ }
     ensures { λ r. ⌜ (r ≡ flowAt i (stackOf sizes (now (state .entry)))) × FlowOk r ⌝ }
 {
+    if FLOW_COUNT <= i {
+        return flows::no_flow();
+    }
     let at = FLOWS_AT + FLOW_WIDTH * i;
     let end = at + FLOW_WIDTH;
     flows::read_flow(&state[at..end])
 }
 
+// Past the last place nothing is stored.
 pub fn put_flow(state: &mut [u8], sizes: Sizes, i: usize, f: Flow)
-    requires { ⌜ Kept sizes (now state) × (i < flowCount) × FlowOk f ⌝ }
+    requires { ⌜ Kept sizes (now state) × FlowOk f ⌝ }
     ensures { λ _. ⌜ Becomes sizes (now (state .entry)) (now (state .exit)) (reflow i f (stackOf sizes (now (state .entry)))) ⌝ }
 {
+    if FLOW_COUNT <= i {
+        return;
+    }
     let at = FLOWS_AT + FLOW_WIDTH * i;
     let end = at + FLOW_WIDTH;
     flows::write_flow(&mut state[at..end], f);
@@ -474,19 +465,26 @@ pub fn put_flow(state: &mut [u8], sizes: Sizes, i: usize, f: Flow)
 
 // Whether a place is used, its peer and its tag as one number.
 pub fn flow_word_at(state: &[u8], sizes: Sizes, i: usize) -> u32
-    requires { ⌜ Kept sizes (now state) × (i < flowCount) ⌝ }
+    requires { ⌜ Kept sizes (now state) ⌝ }
     ensures { λ r. ⌜ r ≡ flowWord (flowAt i (stackOf sizes (now (state .entry)))) ⌝ }
 {
-    get4(state, FLOWS_AT + FLOW_WIDTH * i)
+    if FLOW_COUNT <= i {
+        return 0;
+    }
+    let at = FLOWS_AT + FLOW_WIDTH * i;
+    let end = at + FLOW_WIDTH;
+    get4(&state[at..end], 0)
 }
 
-// Zeros over the first `n` bytes: a state that is all zeros is a fresh one.
+// Zeros over the first `n` bytes, as far as there are any: a state that is all zeros is a fresh one.
 pub fn clear(b: &mut [u8], n: usize)
-    requires { ⌜ n ≤ length (now b) ⌝ }
-    ensures { λ _. ⌜ now (b .exit) ≡ replicate n 0 ++ drop n (now (b .entry)) ⌝ }
+    ensures { λ _. ⌜ now (b .exit) ≡ lay 0 (replicate n 0) (now (b .entry)) ⌝ }
 {
     let mut i = 0;
     while i < n {
+        if b.len() <= i {
+            return;
+        }
         b[i] = 0;
         i += 1;
     }

@@ -1,21 +1,21 @@
--- Laws of the walks over the flows: the word that tells whose a place is, the next event, and a flow that fades.
-use Prim.Native.Nat.{ℕ, _+_, _*_, _<_}
+-- Laws of the walks over the flows: the word that tells whose a place is, and the next event.
+use Prim.Native.Nat.{_+_, _*_, _<_, ℕ}
 use native.Mathlib.Omega.{arith}
 use mathlib.Core.Path.{_≡_, refl, sym, subst, _∙_}
 use mathlib.Core.List.{List}
 use borrow.Author.Tests.{eq-eqb, ne-eqb}
 use lib.ListN.{length, getD}
-use Rattle.octets.specs.Pick.{pick, pick-cases}
+use Rattle.octets.specs.Pick.{pick-cases}
 use Rattle.octets.specs.Find.{find}
 use Rattle.octets.proofs.Bools.{no-both, bool-cases}
 use Rattle.octets.proofs.Finds.{find-ext}
 use Rattle.mctp.specs.declared.Eid.{Eid}
 use Rattle.mctp.specs.declared.TagValue.{TagValue}
 use Rattle.stamp.specs.declared.EventStamp.{EventStamp}
-use Rattle.stamp.specs.Stamp.{next, isExpired}
+use Rattle.stamp.specs.Stamp.{next}
 use Rattle.flows.specs.declared.Flow.{Flow}
 use Rattle.flows.specs.Codec.{FlowOk, flowWord}
-use Rattle.flows.specs.Table.{noFlow, isFlow, flowPlace, flowTimeout, fadedFlow}
+use Rattle.flows.specs.Table.{noFlow, isFlow, flowPlace}
 use Rattle.flows.proofs.CodecLaws.{word-is, is-word}
 use Rattle.state.specs.declared.Sizes.{Sizes}
 use Rattle.state.specs.Stack.{Stack, Kept, Becomes, stackOf}
@@ -41,16 +41,8 @@ word-flow peer tag f ok p t =
     (λ n. ne-eqb (flowWord f) (1 + 256 * (peer .0 + 256 * tag .0)) (λ e. no-both (is-word peer tag f ok p t e) n) ∙ sym n)
 
 module _ (z : Sizes) (b : List ℕ) (k : Kept z b) where
-  flow-ok-at : (i : ℕ) → i < length (stackOf z b .flows) → FlowOk (getD (stackOf z b .flows) i noFlow)
-  flow-ok-at i h = flow-ok z b k i (omega (arith, flows-length z b))
-
   pub word-place : (peer : Eid) (tag : TagValue) → peer .0 < 256 → tag .0 < 256
       → find (hasFlowWord (1 + 256 * (peer .0 + 256 * tag .0))) (stackOf z b .flows) ≡ flowPlace peer tag (stackOf z b .flows)
   word-place peer tag p t =
       find-ext (hasFlowWord (1 + 256 * (peer .0 + 256 * tag .0))) (isFlow peer tag) (stackOf z b .flows) noFlow
-      (λ i h. word-flow peer tag (getD (stackOf z b .flows) i noFlow) (flow-ok-at i h) p t)
-
--- what fades is what is expired
-pub flow-fades : (clock : ℕ) (f : Flow) → fadedFlow clock f ≡ pick (isExpired (flowTimeout clock f)) noFlow f
-unfolding fadedFlow
-flow-fades clock f = refl
+      (λ i h. word-flow peer tag (getD (stackOf z b .flows) i noFlow) (flow-ok z b k i) p t)

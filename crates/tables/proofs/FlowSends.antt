@@ -12,7 +12,7 @@ use Rattle.octets.proofs.Bools.{bool-cases}
 use Rattle.mctp.specs.declared.Eid.{Eid}
 use Rattle.mctp.specs.declared.TagValue.{TagValue}
 use Rattle.mctp.specs.declared.Cookie.{Cookie}
-use Rattle.mctp.specs.declared.Error.the-variants.{BadArgument, TagUnavailable}
+use Rattle.mctp.specs.declared.Error.the-variants.{InvalidInput, BadArgument, TagUnavailable}
 use Rattle.flows.specs.declared.Flow.{Flow}
 use Rattle.flows.specs.declared.Wish.{Wish}
 use Rattle.flows.specs.declared.Wish.the-variants.{Fresh, Fixed}
@@ -79,9 +79,13 @@ module _ (peer : Eid) (tag : TagValue) (expires : Bool) (cookie : Cookie) (t : T
   unfolding freshFlow withTag
   fresh-found e = rw e
 
-  pub set-fixed : (wish : Wish) → wish ≡ Fixed tag → setFlow peer wish expires cookie t ≡ fixedFlow peer tag expires cookie t
-  unfolding setFlow
-  set-fixed wish e = rw e
+  pub set-fixed : (wish : Wish) → wish ≡ Fixed tag → tag .0 ≤ 7 → setFlow peer wish expires cookie t ≡ fixedFlow peer tag expires cookie t
+  unfolding setFlow pick
+  set-fixed wish e h = rw (e, le-ltb 7 (tag .0) h)
+
+  pub set-high : (wish : Wish) → wish ≡ Fixed tag → 7 < tag .0 → setFlow peer wish expires cookie t ≡ record { table = t; granted = Refused InvalidInput }
+  unfolding setFlow pick
+  set-high wish e h = rw (e, lt-ltb 7 (tag .0) h)
 
 module _ (peer : Eid) (expires : Bool) (cookie : Cookie) (t : Table) where
   pub fresh-none : freeTagOf (usedTags peer (t .flows)) (turned t .counter) ≡ NoneFree

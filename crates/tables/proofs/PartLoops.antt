@@ -8,13 +8,13 @@ use mathlib.Core.Bool.{Bool, true, false}
 use mathlib.Core.List.{List, [], _∷_, _++_, map}
 use lib.ListN.{length, getD, set, take, drop, take-append-drop, drop-of-length-le, length-drop}
 use lib.Seq.{drop-cons, take-suc-set, drop-set-lt, append-snoc, set-getD}
-use Rattle.octets.specs.Pick.{pick, pick-true, pick-false}
+use Rattle.octets.specs.Pick.{pick}
 use Rattle.stamp.specs.declared.Timeout.{Timeout}
-use Rattle.stamp.specs.Stamp.{isExpired, soonerOf}
+use Rattle.stamp.specs.Stamp.{isExpired}
 use Rattle.flows.specs.declared.Flow.{Flow}
-use Rattle.flows.specs.Table.{noFlow}
+use Rattle.flows.specs.Table.{noFlow, flowTimeout, fadedFlow}
 use Rattle.reassemble.specs.declared.Reassembler.{Reassembler}
-use Rattle.reassemble.specs.Slot.{blankSlot}
+use Rattle.reassemble.specs.Slot.{blankSlot, slotTimeout, fadedSlot}
 use Rattle.state.specs.declared.Sizes.{Sizes}
 use Rattle.state.specs.Layout.{size, flowCount}
 use Rattle.state.specs.Stack.{Stack, stackOf, Kept, Becomes}
@@ -158,67 +158,93 @@ module _ {A : Type 0} (p : Part A) where
         let d : b ≡ x = determined z b b x (restored i s (stackOf z b)) (same-stored z b i (w .made .kept)) (stored-as z b i x a s e q) in
         subst (λ (y : List ℕ). Becomes z b₀ y (p .put (W (listIn z b₀)) (stackOf z b₀))) d (walk-done b₀ b i w f)
 
-  -- ---- a check of time
+-- ---- a check of time
 
-  module _ (z : Sizes) (time : A → Timeout) (fade : A → A) where
-    -- a check that has come to element i: what was found goes on to what the whole check finds
-    pub record Checked (b₀ : List ℕ) (c₀ : Check) (b : List ℕ) (c : Check) (i : ℕ) : Type 0 where
-      pub walked : Walked z (map fade) b₀ b i
-      pub found : checkOf (map time (drop i (listIn z b))) c ≡ checkOf (map time (listIn z b₀)) c₀
+-- a part whose elements have a time: one that is expired fades to the blank
+pub record Timed (A : Type 0) : Type 1 where
+  pub part : Part A
+  pub time : ℕ → A → Timeout
+  pub fade : ℕ → A → A
+  pub fades : (now : ℕ) (a : A) → fade now a ≡ pick (isExpired (time now a)) (part .blank) a
 
-    pub check-start : (b : List ℕ) (c : Check) → Kept z b → Checked b c b c 0
-    check-start b c k = record { walked = walk-start z (map fade) b k; found = refl }
+pub slot-fades : (now : ℕ) (s : Reassembler) → fadedSlot now s ≡ pick (isExpired (slotTimeout now s)) blankSlot s
+unfolding fadedSlot
+slot-fades now s = refl
 
-    pub check-next : (b₀ : List ℕ) (c₀ : Check) (b : List ℕ) (c : Check) (i : ℕ) (x : List ℕ) (d : Check) → Checked b₀ c₀ b c i → i < p .count z
-        → d ≡ checkOf (time (elementAt i (stackOf z b)) ∷ []) c
-        → Becomes z b x (restored i (fade (elementAt i (stackOf z b))) (stackOf z b))
+pub flow-fades : (now : ℕ) (f : Flow) → fadedFlow now f ≡ pick (isExpired (flowTimeout now f)) noFlow f
+unfolding fadedFlow
+flow-fades now f = refl
+
+abbrev pub timedSlots : Timed Reassembler
+timedSlots = record { part = slotPart; time = slotTimeout; fade = fadedSlot; fades = slot-fades }
+
+abbrev pub timedFlows : Timed Flow
+timedFlows = record { part = flowPart; time = flowTimeout; fade = fadedFlow; fades = flow-fades }
+
+module _ {A : Type 0} (p : Timed A) (z : Sizes) (now : ℕ) where
+  abbrev timeAt : ℕ → Stack → Timeout
+  timeAt i st = p .time now (elementAt (p .part) i st)
+
+  abbrev fadedAt : ℕ → Stack → Stack
+  fadedAt i st = restored (p .part) i (p .fade now (elementAt (p .part) i st)) st
+
+  -- a check that has come to element i: what was found goes on to what the whole check finds
+  pub record Checked (b₀ : List ℕ) (c₀ : Check) (b : List ℕ) (c : Check) (i : ℕ) : Type 0 where
+    pub walked : Walked (p .part) z (map (p .fade now)) b₀ b i
+    pub found : checkOf (map (p .time now) (drop i (listIn (p .part) z b))) c ≡ checkOf (map (p .time now) (listIn (p .part) z b₀)) c₀
+
+  pub check-start : (b : List ℕ) (c : Check) → Kept z b → Checked b c b c 0
+  check-start b c k = record { walked = walk-start (p .part) z (map (p .fade now)) b k; found = refl }
+
+  module _ (b₀ : List ℕ) (c₀ : Check) (b : List ℕ) (c : Check) (i : ℕ) (w : Checked b₀ c₀ b c i) where
+    pub check-next : (x : List ℕ) (d : Check) → i < p .part .count z
+        → (d ≡ checkOf (timeAt i (stackOf z b) ∷ []) c) × Becomes z b x (fadedAt i (stackOf z b))
         → Checked b₀ c₀ x d (i + 1)
     unfolding leastLeft anyExpired
-    check-next b₀ c₀ b c i x d w h e q =
-        let a = elementAt i (stackOf z b) in
-        let t = drop (suc i) (listIn z b) in
+    check-next x d h s =
+        let a = elementAt (p .part) i (stackOf z b) in
+        let t = drop (suc i) (listIn (p .part) z b) in
         record {
-          walked = walk-next z (map fade) b₀ b x i (fade a) (w .walked) h q refl;
+          walked = walk-next (p .part) z (map (p .fade now)) b₀ b x i (p .fade now a) (w .walked) h (s .1) refl;
           found =
-              ap (λ (l : List A). checkOf (map time l) d) (drop-next z b x i (fade a) q)
-              ∙ ap (λ (f : Check). checkOf (map time t) f) e
-              ∙ ap (λ (l : List A). checkOf (map time l) c) (sym (drop-here z b i h))
+              ap (λ (l : List A). checkOf (map (p .time now) l) d) (drop-next (p .part) z b x i (p .fade now a) (s .1))
+              ∙ ap (λ (f : Check). checkOf (map (p .time now) t) f) (s .0)
+              ∙ ap (λ (l : List A). checkOf (map (p .time now) l) c) (sym (drop-here (p .part) z b i h))
               ∙ w .found;
         }
 
-    pub check-done : (b₀ : List ℕ) (c₀ : Check) (b : List ℕ) (c : Check) (i : ℕ) → Checked b₀ c₀ b c i → p .count z ≤ i
-        → (c ≡ checkOf (map time (listIn z b₀)) c₀) × Becomes z b₀ b (p .put (map fade (listIn z b₀)) (stackOf z b₀))
+    pub check-done : p .part .count z ≤ i
+        → (c ≡ checkOf (map (p .time now) (listIn (p .part) z b₀)) c₀) × Becomes z b₀ b (p .part .put (map (p .fade now) (listIn (p .part) z b₀)) (stackOf z b₀))
     unfolding leastLeft anyExpired
-    check-done b₀ c₀ b c i w h =
-        let g = drop-end z b i h in
-        (sym (ap (λ (l : List A). checkOf (map time l) c) g) ∙ w .found, walk-done z (map fade) b₀ b i (w .walked) (ap (map fade) g ∙ sym g))
+    check-done h =
+        let g = drop-end (p .part) z b i h in
+        (sym (ap (λ (l : List A). checkOf (map (p .time now) l) c) g) ∙ w .found, walk-done (p .part) z (map (p .fade now)) b₀ b i (w .walked) (ap (map (p .fade now)) g ∙ sym g))
 
-    -- one element of a check: read as y, its time is t, the least is then n, and it is expired as g says
-    module _ (fades : (a : A) → fade a ≡ pick (isExpired (time a)) (p .blank) a) (b : List ℕ) (i : ℕ) (c : Check) (y : A) (t : Timeout) (n : ℕ) (g : Bool)
-        (read : y ≡ elementAt i (stackOf z b)) (timed : t ≡ time y) (least : n ≡ soonerOf t (c .least)) (told : g ≡ isExpired t) where
-      abbrev here : A
-      here = elementAt i (stackOf z b)
+    -- the bytes keep their length
+    pub check-length : Kept z b₀ → length b ≡ length b₀
+    check-length k = becomes-length z b₀ b _ k (w .walked .made)
 
-      at-time : t ≡ time here
-      at-time = timed ∙ ap time read
+  -- one element of a check: read as y, its time is t, r is found with it, and it is expired as g says
+  module _ (b : List ℕ) (i : ℕ) (c : Check) {y : A} {t : Timeout} {r : Check} {g : Bool}
+      (read : y ≡ elementAt (p .part) i (stackOf z b)) (timed : t ≡ p .time now y) (noted : r ≡ checkOf (t ∷ []) c) (told : g ≡ isExpired t) where
+    at-time : t ≡ timeAt i (stackOf z b)
+    at-time = timed ∙ ap (p .time now) read
 
-      expiry : (r : Bool) → g ≡ r → isExpired (time here) ≡ r
-      expiry r e = sym (told ∙ ap isExpired at-time) ∙ e
+    found-one : r ≡ checkOf (timeAt i (stackOf z b) ∷ []) c
+    found-one = noted ∙ ap (λ (u : Timeout). checkOf (u ∷ []) c) at-time
 
-      one : (x : Bool) → x ≡ pick (isExpired (time here)) true (c .expired) → _≡_ {A = Check} (record { least = n; expired = x }) (checkOf (time here ∷ []) c)
-      unfolding leastLeft anyExpired
-      one x q = let l = least ∙ ap (λ (u : Timeout). soonerOf u (c .least)) at-time in λ j. record { least = l j; expired = q j }
+    fades-to : (h : Bool) → g ≡ h → pick h (p .part .blank) (elementAt (p .part) i (stackOf z b)) ≡ p .fade now (elementAt (p .part) i (stackOf z b))
+    fades-to h e =
+        let s = elementAt (p .part) i (stackOf z b) in
+        sym (p .fades now s ∙ ap (λ (x : Bool). pick x (p .part .blank) s) (sym (told ∙ ap isExpired at-time) ∙ e))
 
-      -- expired, it goes
-      pub expire-gone : g ≡ true → (a : A) (x : List ℕ) → a ≡ p .blank → Becomes z b x (restored i a (stackOf z b))
-          → (_≡_ {A = Check} (record { least = n; expired = true }) (checkOf (time here ∷ []) c)) × Becomes z b x (restored i (fade here) (stackOf z b))
-      expire-gone e a x s q =
-          let h = expiry true e in
-          (one true (sym (pick-true _ _ _ h)), stored-as z b i x a (fade here) (s ∙ sym (fades here ∙ pick-true _ _ _ h)) q)
+    -- expired, it goes
+    pub expire-gone : g ≡ true → {a : A} {x : List ℕ} → a ≡ p .part .blank → Becomes z b x (restored (p .part) i a (stackOf z b))
+        → (r ≡ checkOf (timeAt i (stackOf z b) ∷ []) c) × Becomes z b x (fadedAt i (stackOf z b))
+    unfolding pick
+    expire-gone e q s = (found-one, stored-as (p .part) z b i _ _ _ (q ∙ fades-to true e) s)
 
-      -- else it stays
-      pub expire-stays : g ≡ false → Kept z b
-          → (_≡_ {A = Check} (record { least = n; expired = c .expired }) (checkOf (time here ∷ []) c)) × Becomes z b b (restored i (fade here) (stackOf z b))
-      expire-stays e k =
-          let h = expiry false e in
-          (one (c .expired) (sym (pick-false _ _ _ h)), stored-as z b i b here (fade here) (sym (fades here ∙ pick-false _ _ _ h)) (same-stored z b i k))
+    -- else it stays
+    pub expire-stays : g ≡ false → Kept z b → (r ≡ checkOf (timeAt i (stackOf z b) ∷ []) c) × Becomes z b b (fadedAt i (stackOf z b))
+    unfolding pick
+    expire-stays e k = (found-one, stored-as (p .part) z b i b _ _ (fades-to false e) (same-stored (p .part) z b i k))

@@ -1,4 +1,5 @@
--- What a walk over the slots or the flows of a stack makes: an event, a check of time, a send's flow, a cancel's sweep.
+-- What a walk over the slots or the flows of a stack makes.
+-- An event, a check of time, a send's flow, a cancel's sweep.
 -- Leans on `state` for the stack, on `flows` and `reassemble` for its parts.
 use Prim.Native.Nat.{ℕ, _<_}
 use mathlib.Core.Bool.{Bool, true, false}
@@ -14,15 +15,15 @@ use Rattle.stamp.specs.Stamp.{next, earlier, isExpired, soonerOf}
 use Rattle.flows.specs.declared.Flow.{Flow}
 use Rattle.flows.specs.Table.{Table, flowTimeout}
 use Rattle.reassemble.specs.declared.Reassembler.{Reassembler}
-use Rattle.reassemble.specs.Slot.{blankSlot, isReply, handleTaken, slotTimeout}
-use Rattle.flows.specs.declared.Wish.{Wish}
-use Rattle.flows.specs.declared.Wish.the-variants.{Fresh, Fixed}
+use Rattle.reassemble.specs.Slot.{blankSlot, isReply, handleTaken, keptUnder, listed, slotTimeout}
 use Rattle.flows.specs.Codec.{flowWord}
 use Rattle.state.specs.declared.Head.{Head}
 use Rattle.state.specs.Slot.{keyWord}
 use Rattle.state.specs.Head.{renowed}
 use Rattle.state.specs.Stack.{Stack, rehead}
 use Rattle.tables.specs.declared.Check.{Check}
+use Rattle.tables.specs.declared.slot_walks.Choice.{Choice}
+use Rattle.tables.specs.declared.slot_walks.Choice.the-variants.{From, Listed}
 
 -- the stack with another stamp of the last event
 abbrev pub renow : EventStamp → Stack → Stack
@@ -87,6 +88,11 @@ unfoldable pub blocked : Eid → TagValue → List Reassembler → Bool
 blocked peer tag [] = false
 blocked peer tag (s ∷ l) = pick (isReply peer tag s) (pick (handleTaken s) true (blocked peer tag l)) (blocked peer tag l)
 
+-- what a search for a done message asks of a slot
+abbrev pub chosen : Choice → List ℕ → Reassembler → Bool
+chosen (From peer owner tag) cookies s = keptUnder peer owner tag s
+chosen Listed cookies s = listed cookies (s .cookie)
+
 -- a slot's, or a flow's, first four bytes are that number
 abbrev pub hasWord : ℕ → Reassembler → Bool
 hasWord w s = eqb (keyWord s) w
@@ -98,8 +104,3 @@ hasFlowWord w f = eqb (flowWord f) w
 unfoldable pub betterOf : ℕ → ℕ → List Reassembler → ℕ
 betterOf i best slots =
     pick (ltb best (length slots)) (pick (earlier ((getD slots best blankSlot) .stamp) ((getD slots i blankSlot) .stamp)) best i) i
-
--- a tag that is wished for is one of the eight
-abbrev pub WishOk : Wish → Type 0
-WishOk Fresh = Unit
-WishOk (Fixed tag) = tag .0 < 8

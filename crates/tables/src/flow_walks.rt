@@ -6,7 +6,7 @@ ghost use Rattle.octets.specs.Find.{find};
 ghost use Rattle.flows.specs.Table.{isFree, flowPlace, removed, usedTags, flowTimeout, fadedFlow, insertFlow, counted as countedBy, turned, freshFlow, fixedFlow, setFlow};
 ghost use Rattle.state.specs.Layout.{flowCount};
 ghost use Rattle.state.specs.Stack.{Kept, Becomes, stackOf, flowAt, reflow};
-ghost use Rattle.tables.specs.Walks.{renow, reflows, tableOf, retable, checkOf, flowTimes, hasFlowWord, WishOk};
+ghost use Rattle.tables.specs.Walks.{renow, reflows, tableOf, retable, checkOf, flowTimes, hasFlowWord};
 use crate::Check;
 use flows::Granted;
 use flows::TagFound;
@@ -45,7 +45,7 @@ pub fn find_flow(state: &[u8], sizes: Sizes, peer: Eid, tag: TagValue) -> usize
 }
 
 // The first place that holds no flow, or 64.
-pub fn find_free(state: &[u8], sizes: Sizes) -> usize
+fn find_free(state: &[u8], sizes: Sizes) -> usize
     requires { ⌜ Kept sizes (now state) ⌝ }
     ensures { λ r. ⌜ (r ≡ find isFree (stackOf sizes (now (state .entry)) .flows)) × (r ≤ flowCount) ⌝ }
 {
@@ -139,9 +139,9 @@ fn turn_counter(state: &mut [u8], sizes: Sizes) -> u8
     ensures { λ r. ⌜ (r ≡ turned (tableOf (stackOf sizes (now (state .entry)))) .counter) × Becomes sizes (now (state .entry)) (now (state .exit)) (retable (turned (tableOf (stackOf sizes (now (state .entry))))) (stackOf sizes (now (state .entry)))) × (r < 8) ⌝ }
 {
     let h = state::head_at(state, sizes);
-    let next = (h.next_tag % 8 + 1) % 8;
-    state::put_head(state, sizes, h.with_tag(next));
-    next
+    let turned = h.with_next_tag();
+    state::put_head(state, sizes, turned);
+    turned.next_tag
 }
 
 // A flow under a given owned tag: one that stands is used again, unless it expires.
@@ -177,12 +177,17 @@ pub fn set_flow(
     expires: bool,
     cookie: Cookie,
 ) -> Granted
-    requires { ⌜ Kept sizes (now state) × WishOk wish ⌝ }
+    requires { ⌜ Kept sizes (now state) ⌝ }
     ensures { λ r. ⌜ (r ≡ setFlow peer wish expires cookie (tableOf (stackOf sizes (now (state .entry)))) .granted) × Becomes sizes (now (state .entry)) (now (state .exit)) (retable (setFlow peer wish expires cookie (tableOf (stackOf sizes (now (state .entry)))) .table) (stackOf sizes (now (state .entry)))) ⌝ }
 {
     match wish {
         Wish::Fresh => fresh_flow(state, sizes, peer, expires, cookie),
-        Wish::Fixed(tag) => fixed_flow(state, sizes, peer, tag, expires, cookie),
+        Wish::Fixed(tag) => {
+            if 7 < tag.0 {
+                return Granted::Refused(Error::InvalidInput);
+            }
+            fixed_flow(state, sizes, peer, tag, expires, cookie)
+        }
     }
 }
 
@@ -191,21 +196,13 @@ fn expire_flow(state: &mut [u8], sizes: Sizes, i: usize, clock: u64, c: Check) -
     requires { ⌜ Kept sizes (now state) × (i < flowCount) ⌝ }
     ensures { λ r. ⌜ (r ≡ checkOf (flowTimeout clock (flowAt i (stackOf sizes (now (state .entry)))) ∷ []) c) × Becomes sizes (now (state .entry)) (now (state .exit)) (reflow i (fadedFlow clock (flowAt i (stackOf sizes (now (state .entry))))) (stackOf sizes (now (state .entry)))) ⌝ }
 {
-    let f = state::flow_at(state, sizes, i);
-    let t = f.check_expired(clock);
-    let least = t.sooner(c.least);
+    let t = state::flow_at(state, sizes, i).check_expired(clock);
+    let found = c.noted(t);
     let expired = t.is_expired();
     if expired {
         state::put_flow(state, sizes, i, flows::no_flow());
-        return Check {
-            least: least,
-            expired: true,
-        };
     }
-    Check {
-        least: least,
-        expired: c.expired,
-    }
+    found
 }
 
 // Expired flows go; what the check found goes on from `c`.

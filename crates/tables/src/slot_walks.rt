@@ -8,12 +8,13 @@ ghost use Rattle.reassemble.specs.Slot.{blankSlot, isEmpty, collects, keptUnder
 ghost use Rattle.reassemble.specs.Search.{earliest};
 ghost use Rattle.state.specs.Slot.{wordOf};
 ghost use Rattle.state.specs.Stack.{Kept, Becomes, stackOf, slotAt, reslot};
-ghost use Rattle.tables.specs.Walks.{reslots, checkOf, slotTimes, swept, blocked, hasWord, betterOf};
+ghost use Rattle.tables.specs.Walks.{reslots, checkOf, slotTimes, swept, blocked, hasWord, betterOf, chosen};
 use crate::Check;
 use mctp::Cookie;
 use mctp::Eid;
 use mctp::Key;
 use mctp::TagValue;
+use reassemble::Reassembler;
 use state::Sizes;
 
 // A collecting slot's state and key as one number.
@@ -42,9 +43,13 @@ fn find_word(state: &[u8], sizes: Sizes, w: u32) -> usize
 
 // The first slot that collects under a key, or the number of slots.
 pub fn find_collecting(state: &[u8], sizes: Sizes, key: Key) -> usize
-    requires { ⌜ Kept sizes (now state) × (key .tag .0 < 8) ⌝ }
+    requires { ⌜ Kept sizes (now state) ⌝ }
     ensures { λ r. ⌜ (r ≡ find (collects key) (stackOf sizes (now (state .entry)) .slots)) × (r ≤ sizes .slots) ⌝ }
 {
+    // no slot is kept under a tag above 7
+    if 7 < key.tag.0 {
+        return sizes.slots;
+    }
     find_word(state, sizes, word_of(key))
 }
 
@@ -69,21 +74,13 @@ fn expire_slot(state: &mut [u8], sizes: Sizes, i: usize, clock: u64, c: Check) -
     requires { ⌜ Kept sizes (now state) × (i < sizes .slots) ⌝ }
     ensures { λ r. ⌜ (r ≡ checkOf (slotTimeout clock (slotAt i (stackOf sizes (now (state .entry)))) ∷ []) c) × Becomes sizes (now (state .entry)) (now (state .exit)) (reslot i (fadedSlot clock (slotAt i (stackOf sizes (now (state .entry))))) (stackOf sizes (now (state .entry)))) ⌝ }
 {
-    let s = state::slot_at(state, sizes, i);
-    let t = s.check_expired(clock);
-    let least = t.sooner(c.least);
+    let t = state::slot_at(state, sizes, i).check_expired(clock);
+    let found = c.noted(t);
     let expired = t.is_expired();
     if expired {
         state::put_slot(state, sizes, i, reassemble::blank());
-        return Check {
-            least: least,
-            expired: true,
-        };
     }
-    Check {
-        least: least,
-        expired: c.expired,
-    }
+    found
 }
 
 // Expired slots are emptied; what the check found goes on from `c`.
@@ -117,23 +114,10 @@ fn better(state: &[u8], sizes: Sizes, i: usize, best: usize) -> usize
     i
 }
 
-// The earliest done slot from that peer under that tag, lowest index on a tie, or the number of slots.
-pub fn earliest_from(state: &[u8], sizes: Sizes, peer: Eid, owner: bool, tag: TagValue) -> usize
-    requires { ⌜ Kept sizes (now state) ⌝ }
-    ensures { λ r. ⌜ (r ≡ earliest (keptUnder peer owner tag) (stackOf sizes (now (state .entry)) .slots)) × (r ≤ sizes .slots) ⌝ }
-{
-    let mut best = sizes.slots;
-    let mut i = sizes.slots;
-    while 0 < i {
-        i -= 1;
-        let s = state::slot_at(state, sizes, i);
-        if s.is_done() {
-            if reassemble::is_from(s, peer, owner, tag) {
-                best = better(state, sizes, i, best);
-            }
-        }
-    }
-    best
+// What a search for a done message asks of a slot: its sender and tag, or that its cookie is one of a list.
+enum Choice {
+    From(Eid, bool, TagValue),
+    Listed,
 }
 
 // A cookie that is one of a list.
@@ -159,24 +143,50 @@ fn contains(cookies: &[u64], x: u64) -> bool
     false
 }
 
-// The earliest done slot whose cookie is one of the list, lowest index on a tie, or the number of slots.
-pub fn earliest_listed(state: &[u8], sizes: Sizes, cookies: &[u64]) -> usize
+fn passes(s: Reassembler, choice: Choice, cookies: &[u64]) -> bool
+    ensures { λ r. ⌜ r ≡ chosen choice (now (cookies .entry)) s ⌝ }
+{
+    let cookie = s.cookie;
+    match choice {
+        Choice::From(peer, owner, tag) => reassemble::is_from(s, peer, owner, tag),
+        Choice::Listed => is_listed(cookies, cookie),
+    }
+}
+
+// The earliest done slot that passes, lowest index on a tie, or the number of slots.
+fn earliest_of(state: &[u8], sizes: Sizes, choice: Choice, cookies: &[u64]) -> usize
     requires { ⌜ Kept sizes (now state) ⌝ }
-    ensures { λ r. ⌜ (r ≡ earliest (λ s. listed (now (cookies .entry)) (s .cookie)) (stackOf sizes (now (state .entry)) .slots)) × (r ≤ sizes .slots) ⌝ }
+    ensures { λ r. ⌜ (r ≡ earliest (chosen choice (now (cookies .entry))) (stackOf sizes (now (state .entry)) .slots)) × (r ≤ sizes .slots) ⌝ }
 {
     let mut best = sizes.slots;
     let mut i = sizes.slots;
     while 0 < i {
         i -= 1;
-        let slot = state::slot_at(state, sizes, i);
-        if slot.is_done() {
-            let cookie = slot.cookie;
-            if is_listed(cookies, cookie) {
+        let s = state::slot_at(state, sizes, i);
+        if s.is_done() {
+            if passes(s, choice, cookies) {
                 best = better(state, sizes, i, best);
             }
         }
     }
     best
+}
+
+// The earliest done slot from that peer under that tag, lowest index on a tie, or the number of slots.
+pub fn earliest_from(state: &[u8], sizes: Sizes, peer: Eid, owner: bool, tag: TagValue) -> usize
+    requires { ⌜ Kept sizes (now state) ⌝ }
+    ensures { λ r. ⌜ (r ≡ earliest (keptUnder peer owner tag) (stackOf sizes (now (state .entry)) .slots)) × (r ≤ sizes .slots) ⌝ }
+{
+    let unread = [0];
+    earliest_of(state, sizes, Choice::From(peer, owner, tag), &unread)
+}
+
+// The earliest done slot whose cookie is one of the list, lowest index on a tie, or the number of slots.
+pub fn earliest_listed(state: &[u8], sizes: Sizes, cookies: &[u64]) -> usize
+    requires { ⌜ Kept sizes (now state) ⌝ }
+    ensures { λ r. ⌜ (r ≡ earliest (λ s. listed (now (cookies .entry)) (s .cookie)) (stackOf sizes (now (state .entry)) .slots)) × (r ≤ sizes .slots) ⌝ }
+{
+    earliest_of(state, sizes, Choice::Listed, cookies)
 }
 
 // One slot of a cancel's walk: a reply with no handle out is freed; true where the walk stops there.

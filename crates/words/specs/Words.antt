@@ -1,5 +1,6 @@
 -- Records as rows of 64-bit numbers, for callers that hold only numbers: a send, a fragmenter, a handle, a message.
--- A yes or no is written 1 or 0, and any number but 0 is read as yes. Leans on the records of `mctp`, `fragment` and `estack`.
+-- A yes or no is written 1 or 0, and any number but 0 is read as yes.
+-- Leans on the records of `mctp`, `fragment` and `estack`.
 use Prim.Native.Nat.{ℕ, _%_}
 use mathlib.Core.Bool.{Bool, true, false}
 use mathlib.Core.List.{List, [], _∷_}

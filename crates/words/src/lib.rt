@@ -1,5 +1,6 @@
-// Records as rows of 64-bit numbers: a send, a fragmenter, a message, a handle. A yes or no is 1 or 0, and any number but 0 is yes.
-// Leans on `mctp`, `fragment` and `estack` for the records. Definitions: specs/Words.antt.
+// Records as rows of 64-bit numbers: a send, a fragmenter, a message, a handle.
+// A yes or no is 1 or 0, and any number but 0 is yes. Definitions: specs/Words.antt.
+// Leans on `mctp`, `fragment` and `estack` for the records.
 ghost use mathlib.Core.Path.{_≡_};
 ghost use Prim.Native.Nat.{_≤_, _<_};
 ghost use Rattle.words.specs.Words.{flagWord, isYes, narrow, tagFrom, cookieFrom, wordsOf, advancedRow, fragmenterOf, handleWords, messageWords, lawful, sendOf, sendTagFrom, sendMtuFrom};

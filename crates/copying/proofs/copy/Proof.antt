@@ -1,64 +1,52 @@
--- `copy` goes by the length; the moves of both ends overlap or meet.
+-- `copy` cuts off what does not fit, and moves the rest whole (`lay-clip`).
 use native.Mathlib.Omega.{arith}
+use mathlib.Core.Path.{_≡_, sym, _∙_}
+use Prim.Native.Nat.{_-_}
+use lib.ListN.{length, take}
+use lib.Seq.{length-take-le}
 use denote.Ref.{now}
 use borrow.Author.Needs.{needs}
-use Rattle.copying.proofs.Front.{ends-at-once}
+use Rattle.octets.proofs.Part.{lay-front, lay-clip}
 use Rattle.copying.proofs.copy.Statement.{statement}
 use Rattle.copying.proofs.copy.Tie as tie
 
-short-requires : tie.Need-short-requires
-short-requires c κs = (omega arith, omega arith)
+smaller-requires : tie.Need-smaller-requires
+smaller-requires c κs = search needs
+
+sub-whole : tie.Need-sub-whole
+sub-whole c = search needs
+
+part-whole-start : tie.Need-part-whole-start
+part-whole-start c = search needs
+
+part-whole-end : tie.Need-part-whole-end
+part-whole-end c = search needs
+
+whole-requires : tie.Need-whole-requires
+whole-requires c κs = search needs
 
 same-length : tie.Need-same-length
-same-length c = omega arith
+same-length c = search needs
 
 returns : tie.Need-returns
-returns c = search needs
-
-pair8-requires : tie.Need-pair8-requires
-pair8-requires c κs = (omega arith, omega arith, omega arith)
-
-same-length-2 : tie.Need-same-length-2
-same-length-2 c = omega arith
-
-returns-2 : tie.Need-returns-2
-returns-2 c = let z = c .before .before .before .before .before .before .before .before .args in ends-at-once (now (z .src)) (now (z .dst)) 8 (c .before .before .pair8 .ensures) (omega arith) (omega arith)
-
-sub-pair16 : tie.Need-sub-pair16
-sub-pair16 c = omega arith
-
-pair16-requires : tie.Need-pair16-requires
-pair16-requires c κs = (omega arith, omega arith, omega arith)
-
-same-length-3 : tie.Need-same-length-3
-same-length-3 c = omega arith
-
-returns-3 : tie.Need-returns-3
-returns-3 c = let z = c .before .before .before .before .before .before .before .before .before .args in ends-at-once (now (z .src)) (now (z .dst)) 16 (c .before .before .pair16 .ensures) (omega arith) (omega arith)
-
-long-requires : tie.Need-long-requires
-long-requires c κs = (omega arith, omega arith)
-
-same-length-4 : tie.Need-same-length-4
-same-length-4 c = omega arith
-
-returns-4 : tie.Need-returns-4
-returns-4 c = search needs
+returns c =
+    let w = c .before .before in
+    let q = w .before .before .before in
+    let z = q .before .before .before .args in
+    let n = q .smaller .result - 0 in
+    let s = now (z .src) in
+    let d = now (z .dst) in
+    let l : length (take n s) ≡ n = length-take-le n s (omega arith) in
+    w .whole .ensures ∙ sym (lay-front (take n s) d (omega arith)) ∙ lay-clip n s d (omega arith)
 
 pub copy-spec : {M : Type 1} → statement M
 copy-spec =
     tie.close
     (tie.spec
-    short-requires
+    smaller-requires
+    sub-whole
+    part-whole-start
+    part-whole-end
+    whole-requires
     same-length
-    returns
-    pair8-requires
-    same-length-2
-    returns-2
-    sub-pair16
-    pair16-requires
-    same-length-3
-    returns-3
-    long-requires
-    same-length-4
-    returns-4)
+    returns)

@@ -1,7 +1,6 @@
 -- `pair16` moves each 16 as 8 and 8 side by side (`moved-on`).
 use native.Mathlib.Omega.{arith}
 use mathlib.Core.Path.{refl, ap, _∙_}
-use borrow.Author.Needs.{needs}
 use Rattle.octets.specs.Bytes.{over}
 use Rattle.copying.proofs.Front.{moved-on}
 use Rattle.copying.proofs.pair16.Statement.{statement}

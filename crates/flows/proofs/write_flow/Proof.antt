@@ -1,8 +1,6 @@
--- The row of fields over the whole block of 32 bytes is the flow's bytes.
+-- The row of fields is the flow's bytes, laid over the front.
 use denote.Ref.{now}
-use mathlib.Core.Path.{sym, _∙_}
-use Rattle.octets.proofs.Number.{puts-whole}
-use Rattle.flows.proofs.CodecLaws.{flow-long}
+use Rattle.octets.proofs.Number.{puts-lay}
 use Rattle.flows.specs.Codec.{flowBytes, flowFields}
 use borrow.Author.Needs.{needs}
 use Rattle.flows.proofs.write_flow.Statement.{statement}
@@ -42,7 +40,7 @@ returns : tie.Need-returns
 unfolding flowBytes
 returns c =
     let s = c .before .before .before .before .before .before .before .before .before .before .before in
-    cc (puts-whole (flowFields (s .args .f)) (now (s .args .b)) (flow-long (s .args .f) ∙ sym (s .pre)))
+    cc (puts-lay 0 (flowFields (s .args .f)) (now (s .args .b)))
 
 pub write-flow-spec : {M : Type 1} → statement M
 write-flow-spec =

@@ -1,17 +1,27 @@
 -- `write_later` meets its contract: header and body stand side by side, and the body is copied into the part lent past the header.
 use native.Mathlib.Omega.{arith}
-use mathlib.Core.Path.{refl, _∙_}
+use mathlib.Core.Path.{refl}
 use denote.Ref.{now}
-use Rattle.octets.specs.Bytes.{part}
-use Rattle.octets.proofs.Part.{length-part, over-over}
 use Rattle.mctp.specs.Header.{headerBytes}
-use Rattle.fragment.proofs.Lent.{copied}
+use Rattle.fragment.proofs.Lent.{headed, front-copied}
 use borrow.Author.Needs.{needs}
 use Rattle.fragment.proofs.write_later.Statement.{statement}
 use Rattle.fragment.proofs.write_later.Tie as tie
 
-write-header-requires : tie.Need-write-header-requires
-write-header-requires c κs = search needs
+sub-put4 : tie.Need-sub-put4
+sub-put4 c = search needs
+
+part-put4-start : tie.Need-part-put4-start
+part-put4-start c = search needs
+
+part-put4-end : tie.Need-part-put4-end
+part-put4-end c = search needs
+
+encode-header-requires : tie.Need-encode-header-requires
+encode-header-requires c κs = search needs
+
+put4-requires : tie.Need-put4-requires
+put4-requires c κs = search needs
 
 add-end : tie.Need-add-end
 add-end c = search needs
@@ -42,17 +52,22 @@ same-length c = search needs
 
 returns : tie.Need-returns
 returns c =
-    let z = c .before .before .before .before .before .before .before .before .before .before .before .args in
-    let w = c .before .before .before .before .before .before .before .write-header in
-    let l = length-part (z .used) (z .n) (now (z .payload)) (omega arith) in
-    copied 4 (z .used) (z .n) (now (z .payload)) (w .last .0) (c .before .before .copy .last .0) (omega arith) (omega arith) (c .before .before .copy .ensures)
-    ∙ rw (w .ensures) (over-over 0 4 (headerBytes (z .h)) (part (z .used) (z .n) (now (z .payload))) (now (z .out)) refl (omega arith))
+    let y = c .before .before in
+    let w = y .before .before .before .before .before in
+    let z = w .before .before .before .before .before .args in
+    let out = now (z .out) in
+    let e = headed (z .h) _ out (w .before .encode-header .ensures) (w .put4 .ensures) (omega arith) in
+    front-copied 4 (z .used) (z .n) (now (z .payload)) (headerBytes (z .h)) out e refl (omega arith) (omega arith) (y .copy .ensures)
 
 pub write-later-spec : {M : Type 1} → statement M
 write-later-spec =
     tie.close
     (tie.spec
-    write-header-requires
+    sub-put4
+    part-put4-start
+    part-put4-end
+    encode-header-requires
+    put4-requires
     add-end
     sub-copy
     part-copy-start

@@ -1,8 +1,11 @@
--- `get2` joins its two halves: two fields side by side are one (`get-pair`).
+-- `get2` joins its two halves: two fields side by side are one (`get-pair`); past the end there is nothing to read.
 use borrow.Author.Needs.{needs}
-use Rattle.octets.proofs.Number.{get-pair, top}
+use Rattle.octets.proofs.Number.{get-pair, get-past, top}
 use Rattle.octets.proofs.get2.Statement.{statement}
 use Rattle.octets.proofs.get2.Tie as tie
+
+returns : tie.Need-returns
+returns c = search (needs, get-past)
 
 get1-requires : tie.Need-get1-requires
 get1-requires c κs = search needs
@@ -25,19 +28,11 @@ mul-result c = search needs
 add-result : tie.Need-add-result
 add-result c = search needs
 
-returns : tie.Need-returns
+returns-2 : tie.Need-returns-2
 unfolding top
-returns c = search (needs, get-pair)
+returns-2 c = search (needs, get-pair)
 
 pub get2-spec : {M : Type 1} → statement M
 get2-spec =
     tie.close
-    (tie.spec
-    get1-requires
-    add-get1
-    get1-requires-2
-    cast-result
-    cast-result-2
-    mul-result
-    add-result
-    returns)
+    (tie.spec returns get1-requires add-get1 get1-requires-2 cast-result cast-result-2 mul-result add-result returns-2)

@@ -1,7 +1,9 @@
--- `receive` tests SOM and the packet's length as the definition does, and hands the rest to `accept`; after SOM the body is empty, so it fits.
+-- `receive` tests SOM and the packet's length as the definition does, and hands the rest to `accept`. The plan is sound by the definition's own law.
+use denote.Ref.{now}
 use borrow.Author.Needs.{needs}
 use Rattle.octets.proofs.Tests.{picks}
 use Rattle.reassemble.specs.Enter.{enter}
+use Rattle.reassemble.proofs.Searches.{told-plan}
 use Rattle.reassemble.proofs.receive.Statement.{statement}
 use Rattle.reassemble.proofs.receive.Tie as tie
 
@@ -10,7 +12,7 @@ freed-by-requires c κs = search needs
 
 returns : tie.Need-returns
 unfolding enter
-returns c = (search (picks, c .freed-by .ensures), rw (c .freed-by .ensures) (search needs))
+returns c = told-plan _ _ _ _ _ (now (c .before .before .before .before .args .packet)) _ (search (picks, c .freed-by .ensures))
 
 shared-slice-read-begin : tie.Need-shared-slice-read-begin
 shared-slice-read-begin c = search needs
@@ -19,18 +21,18 @@ begin-requires : tie.Need-begin-requires
 begin-requires c κs = search needs
 
 accept-requires : tie.Need-accept-requires
-accept-requires c κs = (search needs, rw (c .begin .ensures) (search needs))
+accept-requires c κs = search needs
 
 returns-2 : tie.Need-returns-2
 unfolding enter
-returns-2 c = (search (picks, c .accept .ensures .0, c .before .begin .ensures), c .accept .ensures .1)
+returns-2 c = told-plan _ _ _ _ _ (now (c .before .before .before .before .before .before .args .packet)) _ (search (picks, c .accept .ensures, c .before .begin .ensures))
 
 accept-requires-2 : tie.Need-accept-requires-2
 accept-requires-2 c κs = search needs
 
 returns-3 : tie.Need-returns-3
 unfolding enter
-returns-3 c = (search (picks, c .accept2 .ensures .0), c .accept2 .ensures .1)
+returns-3 c = told-plan _ _ _ _ _ (now (c .before .before .before .args .packet)) _ (search (picks, c .accept2 .ensures))
 
 pub receive-spec : {M : Type 1} → statement M
 receive-spec =

@@ -1,11 +1,16 @@
--- A flow stored over its block is flow i of the stack (`flow-store`).
-use denote.Ref.{now}
-use mathlib.Core.Path.{refl}
+-- A flow laid over its block is flow i of the stack (`flow-store`); past the last nothing is stored (`flow-stays`).
+use native.Mathlib.Omega.{arith}
+use Rattle.octets.specs.Bytes.{lay}
 use Rattle.flows.specs.Codec.{flowBytes}
-use Rattle.state.proofs.StackLaws.{flow-store}
+use Rattle.state.proofs.StackLaws.{flow-store, flow-whole, flow-stays}
 use borrow.Author.Needs.{needs}
 use Rattle.state.proofs.put_flow.Statement.{statement}
 use Rattle.state.proofs.put_flow.Tie as tie
+
+returns : tie.Need-returns
+returns c =
+    let s = c .before .before in
+    flow-stays _ _ (s .pre .0) (s .args .i) (s .args .f) (omega arith)
 
 mul-at : tie.Need-mul-at
 mul-at c = search needs
@@ -31,22 +36,11 @@ write-flow-requires c κs = search needs
 same-length : tie.Need-same-length
 same-length c = search needs
 
-returns : tie.Need-returns
-returns c =
-    let s = c .before .before .before .before .before in
-    let a = s .args in
-    flow-store (a .sizes) (now (a .state)) (s .pre .0) (λ _. flowBytes (a .f)) _ (a .i) (a .f) (s .pre .1) refl (s .pre .2) (c .before .before .write-flow .ensures)
+returns-2 : tie.Need-returns-2
+returns-2 c =
+    let s = c .before .before .before .before .before .before in
+    let x = s .args .f in
+    flow-store _ _ (s .pre .0) (lay 0 (flowBytes x)) _ (s .args .i) x (omega arith) (flow-whole _ x) (s .pre .1) (c .before .before .write-flow .ensures)
 
 pub put-flow-spec : {M : Type 1} → statement M
-put-flow-spec =
-    tie.close
-    (tie.spec
-    mul-at
-    add-at
-    add-end
-    sub-write-flow
-    part-write-flow-start
-    part-write-flow-end
-    write-flow-requires
-    same-length
-    returns)
+put-flow-spec = tie.close (tie.spec returns mul-at add-at add-end sub-write-flow part-write-flow-start part-write-flow-end write-flow-requires same-length returns-2)

@@ -1,14 +1,10 @@
--- A head stored over its block is the stack's head (`head-store`).
-use denote.Ref.{now}
-use mathlib.Core.Path.{refl}
+-- A head laid over its block is the stack's head (`head-store`).
+use Rattle.octets.specs.Bytes.{lay}
 use Rattle.state.specs.Head.{headBytes}
-use Rattle.state.proofs.StackLaws.{head-store}
+use Rattle.state.proofs.StackLaws.{head-store, head-whole}
 use borrow.Author.Needs.{needs}
 use Rattle.state.proofs.put_head.Statement.{statement}
 use Rattle.state.proofs.put_head.Tie as tie
-
-add-end : tie.Need-add-end
-add-end c = search needs
 
 sub-write-head : tie.Need-sub-write-head
 sub-write-head c = search needs
@@ -28,17 +24,8 @@ same-length c = search needs
 returns : tie.Need-returns
 returns c =
     let s = c .before .before .before .before .before in
-    let a = s .args in
-    head-store (a .sizes) (now (a .state)) (s .pre .0) (λ _. headBytes (a .h)) _ (a .h) refl (s .pre .1) (c .before .before .write-head .ensures)
+    let h = s .args .h in
+    head-store _ _ (s .pre .0) (lay 0 (headBytes h)) _ h (head-whole _ h) (s .pre .1) (c .before .before .write-head .ensures)
 
 pub put-head-spec : {M : Type 1} → statement M
-put-head-spec =
-    tie.close
-    (tie.spec
-    add-end
-    sub-write-head
-    part-write-head-start
-    part-write-head-end
-    write-head-requires
-    same-length
-    returns)
+put-head-spec = tie.close (tie.spec sub-write-head part-write-head-start part-write-head-end write-head-requires same-length returns)

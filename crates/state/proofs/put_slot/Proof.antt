@@ -1,11 +1,16 @@
--- A slot stored over its block is slot i of the stack (`slot-store`).
-use denote.Ref.{now}
-use mathlib.Core.Path.{refl}
+-- A slot laid over its block is slot i of the stack (`slot-store`); past the last nothing is stored (`slot-stays`).
+use native.Mathlib.Omega.{arith}
+use Rattle.octets.specs.Bytes.{lay}
 use Rattle.state.specs.Slot.{slotBytes}
-use Rattle.state.proofs.StackLaws.{slot-store}
+use Rattle.state.proofs.StackLaws.{slot-store, slot-whole, slot-stays}
 use borrow.Author.Needs.{needs}
 use Rattle.state.proofs.put_slot.Statement.{statement}
 use Rattle.state.proofs.put_slot.Tie as tie
+
+returns : tie.Need-returns
+returns c =
+    let s = c .before .before .before in
+    slot-stays _ _ (s .pre .0) (s .args .i) (s .args .s) (omega arith)
 
 mul-at : tie.Need-mul-at
 mul-at c = search needs
@@ -31,22 +36,11 @@ write-slot-requires c κs = search needs
 same-length : tie.Need-same-length
 same-length c = search needs
 
-returns : tie.Need-returns
-returns c =
-    let s = c .before .before .before .before .before in
-    let a = s .args in
-    slot-store (a .sizes) (now (a .state)) (s .pre .0) (λ _. slotBytes (a .s)) _ (a .i) (a .s) (s .pre .1) refl (s .pre .2) (c .before .before .write-slot .ensures)
+returns-2 : tie.Need-returns-2
+returns-2 c =
+    let s = c .before .before .before .before .before .before .before in
+    let x = s .args .s in
+    slot-store _ _ (s .pre .0) (lay 0 (slotBytes x)) _ (s .args .i) x (omega arith) (slot-whole _ x) (s .pre .1) (c .before .before .write-slot .ensures)
 
 pub put-slot-spec : {M : Type 1} → statement M
-put-slot-spec =
-    tie.close
-    (tie.spec
-    mul-at
-    add-at
-    add-end
-    sub-write-slot
-    part-write-slot-start
-    part-write-slot-end
-    write-slot-requires
-    same-length
-    returns)
+put-slot-spec = tie.close (tie.spec returns mul-at add-at add-end sub-write-slot part-write-slot-start part-write-slot-end write-slot-requires same-length returns-2)

@@ -1,10 +1,8 @@
--- `write_head` stores the head's row over the whole block (`puts-whole`).
+-- `write_head` stores the head's row, which is its bytes laid over the front (`puts-lay`).
 use denote.Ref.{now}
-use mathlib.Core.Path.{sym, _∙_}
 use Rattle.octets.specs.Bytes.{puts}
-use Rattle.octets.proofs.Number.{puts-whole}
+use Rattle.octets.proofs.Number.{puts-lay}
 use Rattle.state.specs.Head.{headBytes, headRow}
-use Rattle.state.proofs.HeadLaws.{head-long}
 use borrow.Author.Needs.{needs}
 use Rattle.state.proofs.write_head.Statement.{statement}
 use Rattle.state.proofs.write_head.Tie as tie
@@ -60,7 +58,7 @@ returns c =
       seq .put2 .ensures,
       tag .put12 .ensures,
       own .put1 .ensures,
-    ) (puts-whole (headRow (s .args .h)) (now (s .args .b)) (head-long (s .args .h) ∙ sym (s .pre)))
+    ) (puts-lay 0 (headRow (s .args .h)) (now (s .args .b)))
 
 pub write-head-spec : {M : Type 1} → statement M
 write-head-spec =

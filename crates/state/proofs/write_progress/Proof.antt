@@ -7,6 +7,9 @@ use Rattle.state.proofs.write_progress.Tie as tie
 put1-requires : tie.Need-put1-requires
 put1-requires c κs = search needs
 
+cast-put2 : tie.Need-cast-put2
+cast-put2 c = search needs
+
 put2-requires : tie.Need-put2-requires
 put2-requires c κs = search needs
 
@@ -18,4 +21,4 @@ unfolding puts
 returns c = cc
 
 pub write-progress-spec : {M : Type 1} → statement M
-write-progress-spec = tie.close (tie.spec put1-requires put2-requires same-length returns)
+write-progress-spec = tie.close (tie.spec put1-requires cast-put2 put2-requires same-length returns)

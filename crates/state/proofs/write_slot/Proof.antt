@@ -1,4 +1,4 @@
--- `write_slot` stores the slot's row, in two parts, over the whole block (`slot-rows`).
+-- `write_slot` stores the slot's row, in two parts, over the front (`slot-rows`).
 use denote.Ref.{now}
 use Rattle.state.proofs.SlotLaws.{slot-rows}
 use borrow.Author.Needs.{needs}
@@ -8,8 +8,8 @@ use Rattle.state.proofs.write_slot.Tie as tie
 encode-type-ic-requires : tie.Need-encode-type-ic-requires
 encode-type-ic-requires c κs = search needs
 
-state-no-requires : tie.Need-state-no-requires
-state-no-requires c κs = search needs
+phase-requires : tie.Need-phase-requires
+phase-requires c κs = search needs
 
 owner-tag-requires : tie.Need-owner-tag-requires
 owner-tag-requires c κs = search needs
@@ -56,16 +56,16 @@ returns c =
       v .value .ensures,
       h .present .ensures .0,
       o .owner-tag .ensures,
-      n .state-no .ensures,
+      n .phase .ensures,
       e .encode-type-ic .ensures,
-    ) (slot-rows (s .args .s) (now (s .args .b)) (s .pre .0))
+    ) (slot-rows (s .args .s) (now (s .args .b)))
 
 pub write-slot-spec : {M : Type 1} → statement M
 write-slot-spec =
     tie.close
     (tie.spec
     encode-type-ic-requires
-    state-no-requires
+    phase-requires
     owner-tag-requires
     cast-write-lead
     write-lead-requires

@@ -1,11 +1,12 @@
--- The row and the length first, then the packet: the plan carried out is the step.
+-- The row and the length first, by the plan, which carried out is the step; then the packet.
 use borrow.Author.Needs.{needs}
 use mathlib.Core.Path.{ap, _∙_}
 use lib.ListN.{length}
 use denote.Ref.{now}
 use Rattle.octets.specs.Bytes.{over}
-use Rattle.fragment.specs.Step.{Step}
-use Rattle.fragment.proofs.Plans.{carried, step-planned}
+use Rattle.fragment.specs.declared.Fragmenter.{Fragmenter}
+use Rattle.fragment.specs.Step.{Step, stepOf}
+use Rattle.fragment.proofs.Plans.{step-planned}
 use Rattle.words.specs.Words.{fragmenterOf}
 use Rattle.board.specs.Answers.{stepNo, lengthAfter, steppedAfter}
 use Rattle.board.proofs.calls.hyphaloom_fragment.Statement.{statement}
@@ -21,7 +22,7 @@ put-step-requires : tie.Need-put-step-requires
 put-step-requires c κs = search needs
 
 write-requires : tie.Need-write-requires
-write-requires c κs = c .before .before .before .before .before .plan .ensures .1
+write-requires c κs = search needs
 
 same-length : tie.Need-same-length
 same-length c = search needs
@@ -35,15 +36,14 @@ returns c =
     let row = now (s .fragmenter) in
     let payload = now (s .payload) in
     let out = now (s .out) in
-    let e =
-    ap (carried payload) (rw (l .before .fragmenter-of .ensures) at (l .plan .ensures .0)) ∙ step-planned (fragmenterOf row) payload (length out)
-    in (
+    let f = l .before .fragmenter-of .ensures in
+    let e = step-planned (fragmenterOf row) payload (length out) (rw f at (l .plan .ensures .0)) in (
       p .put-step .ensures .0 ∙ ap (λ (x : Step). stepNo (x .result .output)) e,
       (
         p .put-step .ensures .1 .0 ∙ ap (λ (x : Step). lengthAfter (x .result .output) (now (s .len))) e,
         (
           p .put-step .ensures .1 .1 ∙ ap (λ (x : Step). steppedAfter (x .result .next) (x .result .output) row) e,
-          w .write .ensures ∙ ap (λ (x : Step). over 0 (x .bytes) out) e,
+          w .write .ensures ∙ ap (λ (g : Fragmenter). over 0 (stepOf g payload (length out) .bytes) out) f,
         ),
       ),
     )

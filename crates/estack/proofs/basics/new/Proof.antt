@@ -1,9 +1,9 @@
 -- `new` refuses in the definition's order; otherwise zeros over the front are a fresh stack (`fresh-becomes`), and the head is stored in it.
-use mathlib.Core.List.{_++_}
 use mathlib.Core.Path.{refl}
-use lib.ListN.{replicate, drop}
+use lib.ListN.{replicate}
 use denote.Ref.{now}
 use borrow.Author.Needs.{needs}
+use Rattle.octets.specs.Bytes.{lay}
 use Rattle.octets.proofs.Tests.{picks}
 use Rattle.state.proofs.Fresh as fresh
 use Rattle.state.proofs.StackLaws.{andThen}
@@ -42,7 +42,7 @@ put-head-requires : tie.Need-put-head-requires
 put-head-requires c κs =
     let s = c .before .before .before .before .before .before .before .before .before .before .before .before .before in
     let ok : SizesOk (s .args .sizes) = record { slots = c .before .before .before .before .before .before .before .before .before .before .if1 .left; body = c .before .before .before .before .before .before .before .before .if2 .left } in
-    (rw (c .before .before .before .clear .ensures) (fresh.fresh-becomes (s .args .sizes) (now (s .args .state)) ok .kept), search needs)
+    (rw (c .before .before .before .clear .ensures) (fresh.fresh-becomes (s .args .sizes) (now (s .args .state)) ok (search needs) .kept), search needs)
 
 same-length : tie.Need-same-length
 same-length c = search needs
@@ -55,7 +55,7 @@ returns-5 c =
     let b = now (s .args .state) in
     let ok : SizesOk z = record { slots = c .before .before .before .before .before .before .before .before .before .before .before .before .before .if1 .left; body = c .before .before .before .before .before .before .before .before .before .before .before .if2 .left } in
     let h = freshHead (s .args .own) (s .args .mtu) (s .args .clock) in
-    (search picks, andThen z (λ (t : Stack). rehead h t) b (replicate (size z) 0 ++ drop (size z) b) _ (fresh.freshStack z) (fresh.fresh-becomes z b ok) (rw (c .before .before .before .before .before .before .clear .ensures) at (c .before .before .put-head .ensures)))
+    (search picks, andThen z (λ (t : Stack). rehead h t) b (lay 0 (replicate (size z) 0) b) _ (fresh.freshStack z) (fresh.fresh-becomes z b ok (search needs)) (rw (c .before .before .before .before .before .before .clear .ensures) at (c .before .before .put-head .ensures)))
 
 pub new-spec : {M : Type 1} → statement M
 new-spec =

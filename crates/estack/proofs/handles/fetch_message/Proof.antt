@@ -33,9 +33,7 @@ is-good-requires : tie.Need-is-good-requires
 is-good-requires c κs = search needs
 
 slot-at-requires : tie.Need-slot-at-requires
-slot-at-requires c κs =
-    let s = c .before .before .before .before .before .before in
-    (s .pre, good-in (s .args .sizes) (now (s .args .state)) (s .args .handle) (sym (c .before .is-good .ensures) ∙ c .if2 .taken))
+slot-at-requires c κs = search needs
 
 mul-t16 : tie.Need-mul-t16
 mul-t16 c =

@@ -26,7 +26,7 @@ put-slot-requires : tie.Need-put-slot-requires
 put-slot-requires c κs =
     let s = c .before .before .before .before .before .before .before .before .before .before in
     let n = c .before .before .before .before .next-issue .result in
-    (s .pre, c .before .before .before .before .before .before .before .if1 .taken, rw (c .take-handle .ensures) (restated-ok (s .args .sizes .body) (c .before .before .slot-at .result) (c .before .before .slot-at .ensures .1) (HandleOut n) (search needs)))
+    (s .pre, rw (c .take-handle .ensures) (restated-ok (s .args .sizes .body) (c .before .before .slot-at .result) (c .before .before .slot-at .ensures .1) (HandleOut n) (search needs)))
 
 put-issue-requires : tie.Need-put-issue-requires
 put-issue-requires c κs = search needs

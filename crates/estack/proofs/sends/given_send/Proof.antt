@@ -11,9 +11,7 @@ enum-known-tag : tie.Need-enum-known-tag
 enum-known-tag c = search needs
 
 owned-send-requires : tie.Need-owned-send-requires
-owned-send-requires c κs =
-    let s = c .before .before .before .before .before in
-    (s .pre .0, rw (c .before .before .tag .given .1) at (s .pre .1))
+owned-send-requires c κs = search needs
 
 enum-told : tie.Need-enum-told
 enum-told c = search needs

@@ -8,7 +8,7 @@ use Rattle.state.specs.Stack.{stackOf}
 use Rattle.state.proofs.StackLaws.{stays}
 use Rattle.estack.specs.Sends.{badTag, tagSend, startSendOf}
 use Rattle.estack.specs.declared.SendTag.the-variants.{Fresh, Given}
-use Rattle.estack.proofs.SendLaws.{start-as, tag-small}
+use Rattle.estack.proofs.SendLaws.{start-as}
 use Rattle.estack.proofs.sends.start_send.Statement.{statement}
 use Rattle.estack.proofs.sends.start_send.Tie as tie
 
@@ -37,10 +37,7 @@ enum-known-tag : tie.Need-enum-known-tag
 enum-known-tag c = search needs
 
 given-send-requires : tie.Need-given-send-requires
-given-send-requires c κs =
-    let s = c .before .before .before .before .before .before .before .before .before in
-    let g = c .before .before .tag .given in
-    (s .pre, tag-small (s .args .send .tag) (g .0 .0) (g .1) (sym (c .before .before .before .before .before .is-bad-tag .ensures) ∙ c .before .before .before .before .if2 .left))
+given-send-requires c κs = search needs
 
 same-length : tie.Need-same-length
 same-length c = search needs

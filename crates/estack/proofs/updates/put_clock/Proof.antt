@@ -8,10 +8,10 @@ use Rattle.estack.proofs.updates.put_clock.Tie as tie
 with-clock-requires : tie.Need-with-clock-requires
 with-clock-requires c κs =
     let s = c .before .before in
-    (rw (s .pre .1) (head-ok (s .args .sizes) (now (s .args .state)) (s .pre .0)), s .pre .2)
+    rw (s .pre .1) (head-ok (s .args .sizes) (now (s .args .state)) (s .pre .0))
 
 put-head-requires : tie.Need-put-head-requires
-put-head-requires c κs = search needs
+put-head-requires c κs = let s = c .before .before .before in (s .pre .0, c .with-clock .ensures .1 (s .pre .2))
 
 same-length : tie.Need-same-length
 same-length c = search needs

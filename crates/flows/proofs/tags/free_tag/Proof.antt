@@ -11,7 +11,7 @@ use Rattle.flows.proofs.tags.free_tag.Statement.{statement}
 use Rattle.flows.proofs.tags.free_tag.Tie as tie
 
 abbrev Inv-loop : tie.InvT-loop
-Inv-loop used start i₀ i = (i ≤ 8) × ((k : ℕ) → k < i → isFreeIn used ((start + k) % 8) ≡ false)
+Inv-loop used start i₀ i = (i ≤ 8) × ((k : ℕ) → k < i → isFreeIn used ((start % 8 + k) % 8) ≡ false)
 
 abbrev μ-loop : tie.MeasureT-loop
 μ-loop used start i₀ i = 8 - i
@@ -29,7 +29,7 @@ returns : tie.Need-returns Inv-loop μ-loop
 returns c =
     let at = c .before .before .before in
     let s = at .before .args in
-    sym (free-found (s .used) (s .start) (at .loop .i) (omega arith) (sym (c .before .tag-is-free .ensures) ∙ c .if1 .taken) (at .loop .inv .1))
+    sym (free-found (s .used) (s .start % 8) (at .loop .i) (omega arith) (sym (c .before .tag-is-free .ensures) ∙ c .if1 .taken) (at .loop .inv .1))
 
 add-i : tie.Need-add-i Inv-loop μ-loop
 add-i c = search needs
@@ -46,7 +46,7 @@ returns-2 : tie.Need-returns-2 Inv-loop μ-loop
 returns-2 c =
     let at = c .before in
     let s = at .before .args in
-    sym (free-none (s .used) (s .start) (λ j h. at .loop .inv .1 j (omega arith)))
+    sym (free-none (s .used) (s .start % 8) (λ j h. at .loop .inv .1 j (omega arith)))
 
 pub free-tag-spec : {M : Type 1} → statement M
 free-tag-spec =

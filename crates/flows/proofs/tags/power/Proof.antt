@@ -1,5 +1,5 @@
--- 1 shifted by t below 8 is 2 to the t: nothing is shifted out of a byte.
-use Prim.Native.Nat.{_^_}
+-- 1 shifted by less than 8 is that power of 2: nothing is shifted out of a byte.
+use Prim.Native.Nat.{_%_, _^_}
 use native.Mathlib.Nat.{one-mul}
 use native.Mathlib.Omega.{arith}
 use mathlib.Core.Path.{_∙_}
@@ -13,8 +13,9 @@ shl-result c = search needs
 
 returns : tie.Need-returns
 returns c =
-    let e = shl-exact {a = 1} 1 (c .args .t) 8 (omega arith) (omega arith) ∙ one-mul (2 ^ c .args .t) in
-    (e, rw e (pow-pos (c .args .t)))
+    let k = c .args .t % 8 in
+    let e = shl-exact {a = 1} 1 k 8 (omega arith) (omega arith) ∙ one-mul (2 ^ k) in
+    (e, rw e (pow-pos k))
 
 pub power-spec : {M : Type 1} → statement M
 power-spec = tie.close (tie.spec shl-result returns)

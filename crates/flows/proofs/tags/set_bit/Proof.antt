@@ -1,4 +1,5 @@
 -- A set bit stays, a clear one is added; the sum stays a byte, since the bit was clear.
+use Prim.Native.Nat.{_%_}
 use borrow.Author.Needs.{needs}
 use Rattle.octets.proofs.Tests.{picks}
 use Rattle.flows.proofs.Bits.{room}
@@ -20,7 +21,7 @@ add-result : tie.Need-add-result
 add-result c =
     let e = c .before .power .ensures .0 in
     let s = c .before .before .args in
-    record { fits = rw e (room (s .t) 8 (s .byte) (search needs) (search needs) (rw e at (c .if1 .left))) }
+    record { fits = rw e (room (s .t % 8) 8 (s .byte) (search needs) (search needs) (rw e at (c .if1 .left))) }
 
 returns-2 : tie.Need-returns-2
 unfolding setBit

@@ -1,13 +1,10 @@
 -- `step` meets its contract: it is its plan, carried out.
-use Prim.Native.Nat.{ℕ}
 use mathlib.Core.Path.{ap, _∙_}
-use mathlib.Core.List.{List}
 use lib.ListN.{length}
 use denote.Ref.{now}
 use Rattle.octets.specs.Bytes.{over}
-use Rattle.fragment.specs.declared.Plan.{Plan}
-use Rattle.fragment.specs.Step.{Step, writtenBy}
-use Rattle.fragment.proofs.Plans.{carried, step-planned}
+use Rattle.fragment.specs.Step.{Step}
+use Rattle.fragment.proofs.Plans.{step-planned}
 use borrow.Author.Needs.{needs}
 use Rattle.fragment.proofs.Fragmenter.step.Statement.{statement}
 use Rattle.fragment.proofs.Fragmenter.step.Tie as tie
@@ -15,8 +12,8 @@ use Rattle.fragment.proofs.Fragmenter.step.Tie as tie
 plan-requires : tie.Need-plan-requires
 plan-requires c κs = search needs
 
-write-requires : tie.Need-write-requires
-write-requires c κs = c .before .before .plan .ensures .1
+write-plan-requires : tie.Need-write-plan-requires
+write-plan-requires c κs = c .before .before .plan .ensures .1
 
 same-length : tie.Need-same-length
 same-length c = search needs
@@ -26,8 +23,8 @@ returns c =
     let p = c .before .before .before .before .before in
     let z = p .before .before .before .args in
     let out = now (z .out) in
-    let e = ap (carried (now (z .payload))) (p .plan .ensures .0) ∙ step-planned (z .self) (now (z .payload)) (length out) in
-    (ap (λ (s : Step). s .result) e, c .before .before .write .ensures ∙ ap (λ (s : Step). over 0 (s .bytes) out) e)
+    let e = step-planned (z .self) (now (z .payload)) (length out) (p .plan .ensures .0) in
+    (ap (λ (s : Step). s .result) e, c .before .before .write-plan .ensures ∙ ap (λ (s : Step). over 0 (s .bytes) out) e)
 
 pub step-spec : {M : Type 1} → statement M
-step-spec = tie.close (tie.spec plan-requires write-requires same-length returns)
+step-spec = tie.close (tie.spec plan-requires write-plan-requires same-length returns)

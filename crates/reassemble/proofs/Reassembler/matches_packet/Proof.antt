@@ -1,45 +1,26 @@
--- `matches_packet` tells a collecting slot of the key: only the collecting state asks `same_key`.
+-- `matches_packet` tells a collecting slot of the key: only state 1 asks `same_key`.
+use mathlib.Core.Path.{sym, _∙_}
 use borrow.Author.Needs.{needs}
+use Rattle.mctp.specs.Terms.{sameKey}
+use Rattle.reassemble.proofs.States.{one-collects, others-match-nothing}
 use Rattle.reassemble.proofs.Reassembler.matches_packet.Statement.{statement}
 use Rattle.reassemble.proofs.Reassembler.matches_packet.Tie as tie
 
-enum-told : tie.Need-enum-told
-enum-told c = search needs
-
-enum-told-2 : tie.Need-enum-told-2
-enum-told-2 c = search needs
+phase-requires : tie.Need-phase-requires
+phase-requires c κs = search needs
 
 same-key-requires : tie.Need-same-key-requires
 same-key-requires c κs = search needs
 
-enum-told-3 : tie.Need-enum-told-3
-enum-told-3 c = search needs
-
-enum-told-4 : tie.Need-enum-told-4
-enum-told-4 c = search needs
-
 returns : tie.Need-returns
-returns c = search needs
+returns c = c .same-key .ensures ∙ sym (one-collects (c .before .before .before .args .self .state) _ (sym (c .before .before .phase .ensures) ∙ c .before .if1 .taken))
 
 returns-2 : tie.Need-returns-2
-returns-2 c = rw (c .before .enum-told2 .given .1) (c .same-key .ensures)
-
-returns-3 : tie.Need-returns-3
-returns-3 c = search needs
-
-returns-4 : tie.Need-returns-4
-returns-4 c = search needs
+returns-2 c =
+    let a = c .before .before .args in
+    sym (others-match-nothing (a .self .state) (sameKey (a .self .key) (a .key)) (λ e. c .if1 .left (c .before .phase .ensures ∙ e)))
 
 pub matches-packet-spec : {M : Type 1} → statement M
 matches-packet-spec =
     tie.close
-    (tie.spec
-    enum-told
-    enum-told-2
-    same-key-requires
-    enum-told-3
-    enum-told-4
-    returns
-    returns-2
-    returns-3
-    returns-4)
+    (tie.spec phase-requires same-key-requires returns returns-2)

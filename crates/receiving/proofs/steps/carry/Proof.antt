@@ -10,7 +10,7 @@ use Rattle.state.specs.Stack.{Stack, stackOf, slotAt, reslot}
 use Rattle.state.proofs.StackLaws.{andThen}
 use Rattle.tables.specs.Walks.{ticked}
 use Rattle.receiving.specs.declared.Received.the-variants.{More}
-use Rattle.receiving.proofs.Entered.{in-pool, lent-fits, copied}
+use Rattle.receiving.proofs.Entered.{in-pool, copied}
 use Rattle.receiving.proofs.Receipts.{makes-as}
 use Rattle.receiving.proofs.Middle.{goes-room, middle}
 use Rattle.receiving.proofs.steps.carry.Statement.{statement}
@@ -36,16 +36,16 @@ sub-n c = search needs
 tick-requires : tie.Need-tick-requires
 tick-requires c κs = c .before .before .before .before .pre .0
 
-add-put-progress : tie.Need-add-put-progress
-add-put-progress c = search needs
+add-seq : tie.Need-add-seq
+add-seq c = search needs
 
-add-put-progress-2 : tie.Need-add-put-progress-2
-add-put-progress-2 c = search needs
+add-len : tie.Need-add-len
+add-len c = search needs
 
 put-progress-requires : tie.Need-put-progress-requires
 put-progress-requires c κs =
     let s = c .before .before .before .before .before .before .before .before .before .before in
-    (c .before .before .before .before .before .tick .ensures .1 .kept, s .pre .3, omega arith, fits s)
+    (c .before .before .before .before .before .tick .ensures .1 .kept, record { seq = omega arith; len = fits s })
 
 mul-at : tie.Need-mul-at
 mul-at c = let s = c .before .before .before .before .before .before .before .before .before .before .before .before .before .before in let r = room s in search needs
@@ -72,9 +72,7 @@ part-copy-end-2 : tie.Need-part-copy-end-2
 part-copy-end-2 c = search needs
 
 copy-requires : tie.Need-copy-requires
-copy-requires c κs =
-    let s = c .before .before .before .before .before .before .before .before .before .before .before .before .before .before .before .before .before in
-    lent-fits (start s) 4 (now (s .args .packet)) (now (s .args .pool)) (room s)
+copy-requires c κs = search needs
 
 same-length : tie.Need-same-length
 same-length c = search needs
@@ -107,8 +105,8 @@ carry-spec =
     (tie.spec
     sub-n
     tick-requires
-    add-put-progress
-    add-put-progress-2
+    add-seq
+    add-len
     put-progress-requires
     mul-at
     add-at

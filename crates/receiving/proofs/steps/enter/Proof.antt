@@ -24,7 +24,7 @@ next-issue-requires : tie.Need-next-issue-requires
 next-issue-requires c κs = search needs
 
 receive-requires : tie.Need-receive-requires
-receive-requires c κs = (c .before .before .before .before .before .before .before .before .before .before .pre .3, c .before .before .before .before .before .before .before .before .before .before .pre .6 .len)
+receive-requires c κs = search needs
 
 settle-requires : tie.Need-settle-requires
 settle-requires c κs =
@@ -38,7 +38,7 @@ settle-requires c κs =
     let i = n .ensures ∙ ap nextIssue (c .before .before .before .before .issue-at .ensures) in
     let fits = subst (λ (m : ℕ). m < 2 ^ 64) (sym i) (issue-fits _ (head-ok z (t .last .0) (t .ensures .1 .kept) .issue)) in
     let ok = entered-ok (z .body) (t .result) (n .result) (a .h) (now (a .packet)) (s .pre .0 .sizes .body) (ticked-ok z b (t .last .0) (t .result) (t .ensures .0) (t .ensures .1)) fits (a .s) (s .pre .2) (s .pre .6) in
-    (t .ensures .1 .kept, s .pre .5, s .pre .4, e .ensures .1, subst (λ (x : Entry). SlotOk (z .body) (x .slot)) (sym (e .ensures .0)) ok, i)
+    (t .ensures .1 .kept, s .pre .5, s .pre .4, e .ensures .1 (s .pre .3) (s .pre .6 .len), subst (λ (x : Entry). SlotOk (z .body) (x .slot)) (sym (e .ensures .0)) ok, i)
 
 same-length : tie.Need-same-length
 same-length c = search needs

@@ -17,7 +17,7 @@ find-flow-requires : tie.Need-find-flow-requires
 find-flow-requires c κs = c .before .before .before .pre
 
 flow-at-requires : tie.Need-flow-at-requires
-flow-at-requires c κs = (c .before .before .before .before .before .pre, search needs)
+flow-at-requires c κs = c .before .before .before .before .before .pre
 
 gate-reply-requires : tie.Need-gate-reply-requires
 gate-reply-requires c κs = search needs

@@ -11,19 +11,19 @@ use Rattle.receiving.proofs.steps.go_on.Statement.{statement}
 use Rattle.receiving.proofs.steps.go_on.Tie as tie
 
 progress-at-requires : tie.Need-progress-at-requires
-progress-at-requires c κs = let p = c .before .before .before .before .pre in (p .0, p .5)
+progress-at-requires c κs = c .before .before .before .before .pre .0
 
 sub-n : tie.Need-sub-n
 sub-n c = search needs
 
 goes-on-requires : tie.Need-goes-on-requires
-goes-on-requires c κs = c .progress-at .ensures .1
+goes-on-requires c κs = c .progress-at .ensures .1 .len
 
 carry-requires : tie.Need-carry-requires
 carry-requires c κs =
     let p = c .before .before .before .before .before .before .before .before .before .pre in
     let g = c .before .before .before .before .progress-at .ensures in
-    (p .0, p .3, p .4, p .5, g .0, g .1, sym (c .before .before .before .goes-on .ensures) ∙ c .before .before .if1 .taken)
+    (p .0, p .3, p .4, p .5, g .0, g .1 .len, sym (c .before .before .before .goes-on .ensures) ∙ c .before .before .if1 .taken)
 
 same-length : tie.Need-same-length
 same-length c = search needs
@@ -35,7 +35,7 @@ returns : tie.Need-returns
 returns c = c .before .before .before .before .carry .ensures
 
 slot-at-requires : tie.Need-slot-at-requires
-slot-at-requires c κs = let p = c .before .before .before .before .before .before .before .before .pre in (p .0, p .5)
+slot-at-requires c κs = c .before .before .before .before .before .before .before .before .pre .0
 
 enter-requires : tie.Need-enter-requires
 enter-requires c κs =

@@ -19,7 +19,7 @@ use Rattle.receiving.proofs.steps.receive_good.Statement.{statement}
 use Rattle.receiving.proofs.steps.receive_good.Tie as tie
 
 find-collecting-requires : tie.Need-find-collecting-requires
-find-collecting-requires c κs = (c .before .before .before .before .pre .0, c .before .before .before .before .pre .1)
+find-collecting-requires c κs = c .before .before .before .before .pre .0
 
 go-on-requires : tie.Need-go-on-requires
 go-on-requires c κs = let p = c .before .before .before .before .before .before .before .before .before .pre in (p .0, p .1, p .2, p .3, p .4, c .before .before .if1 .taken)

@@ -8,7 +8,7 @@ use borrow.Author.Needs.{needs}
 use Rattle.state.specs.Stack.{Stack, stackOf, reslot}
 use Rattle.state.proofs.StackLaws.{andThen}
 use Rattle.receiving.specs.Receive.{nextIssue, saidOf, concluded}
-use Rattle.receiving.proofs.Entered.{in-pool, lent-fits, copied}
+use Rattle.receiving.proofs.Entered.{in-pool, copied}
 use Rattle.receiving.proofs.steps.settle.Statement.{statement}
 use Rattle.receiving.proofs.steps.settle.Tie as tie
 
@@ -23,7 +23,7 @@ room s =
     omega (arith, s .pre .2)
 
 put-slot-requires : tie.Need-put-slot-requires
-put-slot-requires c κs = let p = c .before .before .before .before .before .pre in (p .0, p .1, p .4)
+put-slot-requires c κs = let p = c .before .before .before .before .before .pre in (p .0, p .4)
 
 conclude-requires : tie.Need-conclude-requires
 conclude-requires c κs =
@@ -55,9 +55,7 @@ part-copy-end-2 : tie.Need-part-copy-end-2
 part-copy-end-2 c = search needs
 
 copy-requires : tie.Need-copy-requires
-copy-requires c κs =
-    let s = c .before .before .before .before .before .before .before .before .before .before .before .before .before .before .before .before in
-    lent-fits (start s) (s .args .e .from) (now (s .args .packet)) (now (s .args .pool)) (room s)
+copy-requires c κs = search needs
 
 same-length : tie.Need-same-length
 same-length c = search needs

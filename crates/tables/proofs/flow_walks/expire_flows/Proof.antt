@@ -1,23 +1,20 @@
--- `expire_flows` meets its contract: a walk over the flows (`Checked`).
+-- `expire_flows` is a check of time over the flows (`Checked`).
 use Prim.Native.Nat.{_-_}
 use denote.Ref.{now}
-use Rattle.flows.specs.Table.{flowTimeout, fadedFlow}
 use Rattle.state.specs.Layout.{flowCount}
-use Rattle.tables.proofs.PartLoops.{flowPart, Checked, check-start, check-next, check-done, becomes-length}
+use Rattle.tables.proofs.PartLoops.{timedFlows, Checked, check-start, check-next, check-done, check-length}
 use borrow.Author.Needs.{needs}
 use Rattle.tables.proofs.flow_walks.expire_flows.Statement.{statement}
 use Rattle.tables.proofs.flow_walks.expire_flows.Tie as tie
 
 abbrev Inv-loop : tie.InvT-loop
-Inv-loop state₀ sizes clock found₀ i₀ state found i = Checked flowPart sizes (flowTimeout clock) (fadedFlow clock) state₀ found₀ state found i
+Inv-loop state₀ sizes clock found₀ i₀ state found i = Checked timedFlows sizes clock state₀ found₀ state found i
 
 abbrev μ-loop : tie.MeasureT-loop
 μ-loop state₀ sizes clock found₀ i₀ state found i = flowCount - i
 
 loop-holds : tie.Need-loop-holds Inv-loop μ-loop
-loop-holds c =
-    let a = c .before .args in
-    check-start flowPart (a .sizes) (flowTimeout (a .clock)) (fadedFlow (a .clock)) (now (a .state)) (a .c) (c .before .pre)
+loop-holds c = check-start timedFlows _ _ _ _ (c .before .pre)
 
 expire-flow-requires : tie.Need-expire-flow-requires Inv-loop μ-loop
 expire-flow-requires c κs = (c .before .before .loop .inv .walked .made .kept, search needs)
@@ -30,21 +27,14 @@ loop-less c = search needs
 
 loop-again : tie.Need-loop-again Inv-loop μ-loop
 loop-again c =
-    let a = c .before .before .before .before .before .before .before .args in
-    let l = c .before .before .before .before .before .loop in
     let e = c .before .before .expire-flow in
-    check-next flowPart (a .sizes) (flowTimeout (a .clock)) (fadedFlow (a .clock)) (now (a .state)) (a .c) (l .state) (l .found) (l .i) (e .last .0) _ (l .inv) (c .before .before .before .before .loop-test .taken) (e .ensures .0) (e .ensures .1)
+    check-next timedFlows _ _ _ _ _ _ _ (c .before .before .before .before .before .loop .inv) (e .last .0) _ (c .before .before .before .before .loop-test .taken) (e .ensures)
 
 same-length : tie.Need-same-length Inv-loop μ-loop
-same-length c =
-    let s = c .before .before .before in
-    becomes-length (s .args .sizes) (now (s .args .state)) (c .before .loop .state) _ (s .pre) (c .before .loop .inv .walked .made)
+same-length c = check-length timedFlows _ _ _ _ _ _ _ (c .before .loop .inv) (c .before .before .before .pre)
 
 returns : tie.Need-returns Inv-loop μ-loop
-returns c =
-    let a = c .before .before .before .args in
-    let l = c .before .loop in
-    check-done flowPart (a .sizes) (flowTimeout (a .clock)) (fadedFlow (a .clock)) (now (a .state)) (a .c) (l .state) (l .found) (l .i) (l .inv) (c .loop-test .left)
+returns c = check-done timedFlows _ _ _ _ _ _ _ (c .before .loop .inv) (c .loop-test .left)
 
 pub expire-flows-spec : {M : Type 1} → statement M
 expire-flows-spec =

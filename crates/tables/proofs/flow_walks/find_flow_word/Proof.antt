@@ -25,7 +25,7 @@ loop-holds : tie.Need-loop-holds Inv-loop μ-loop
 loop-holds c = search needs
 
 flow-word-at-requires : tie.Need-flow-word-at-requires Inv-loop μ-loop
-flow-word-at-requires c κs = (c .before .before .before .pre, search needs)
+flow-word-at-requires c κs = c .before .before .before .pre
 
 returns : tie.Need-returns Inv-loop μ-loop
 returns c =

@@ -25,7 +25,7 @@ loop-holds : tie.Need-loop-holds Inv-loop μ-loop
 loop-holds c = search needs
 
 flow-at-requires : tie.Need-flow-at-requires Inv-loop μ-loop
-flow-at-requires c κs = (c .before .before .before .pre, search needs)
+flow-at-requires c κs = c .before .before .before .pre
 
 add-i : tie.Need-add-i Inv-loop μ-loop
 add-i c = search needs

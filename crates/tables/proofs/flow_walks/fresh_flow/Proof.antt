@@ -8,8 +8,9 @@ use Rattle.flows.specs.Table.{Table, Flowed, usedTags, turned, insertFlow}
 use Rattle.state.specs.Stack.{Stack}
 use Rattle.tables.specs.Walks.{tableOf, retable}
 use Rattle.tables.proofs.FlowSends.{sent-as, sent-then, free-small, fresh-found, fresh-none}
-use mathlib.Core.Path.{refl, sym, ap, _∙_}
-use Prim.Native.Nat.{ℕ}
+use mathlib.Core.Path.{_≡_, refl, sym, ap, _∙_}
+use Prim.Native.Nat.{ℕ, _%_}
+use native.Mathlib.Omega.{arith}
 use borrow.Author.Needs.{needs}
 use Rattle.tables.proofs.flow_walks.fresh_flow.Statement.{statement}
 use Rattle.tables.proofs.flow_walks.fresh_flow.Tie as tie
@@ -45,7 +46,8 @@ returns c =
     let st = stackOf z b in
     let t = c .before .before .before .before .before .before .before .before .before .before .before .before .turn-counter in
     let used = c .before .before .before .before .before .before .before .before .used-tags .ensures ∙ ap (λ (x : Stack). usedTags (a .peer) (x .flows)) (t .ensures .1 .view) in
-    let told = c .before .before .before .before .before .before .before .free-tag .ensures ∙ ap (λ (u : ℕ). freeTagOf u (t .result)) used ∙ ap (λ (k : ℕ). freeTagOf (usedTags (a .peer) (st .flows)) k) (t .ensures .0) in
+    let small : t .result % 8 ≡ t .result = omega (arith, t .ensures .2) in
+    let told = c .before .before .before .before .before .before .before .free-tag .ensures ∙ ap (λ (k : ℕ). freeTagOf (c .before .before .before .before .before .before .before .before .used-tags .result) k) small ∙ ap (λ (u : ℕ). freeTagOf u (t .result)) used ∙ ap (λ (k : ℕ). freeTagOf (usedTags (a .peer) (st .flows)) k) (t .ensures .0) in
     let found = sym told ∙ c .before .before .before .before .before .tag .given .1 in
     let p = c .before .before .insert-flow in
     let tag = c .before .before .before .before .before .tag .given .0 .0 in
@@ -64,7 +66,8 @@ returns-2 c =
     let st = stackOf z b in
     let t = c .before .before .before .before .before .before .before .turn-counter in
     let used = c .before .before .before .used-tags .ensures ∙ ap (λ (x : Stack). usedTags (a .peer) (x .flows)) (t .ensures .1 .view) in
-    let told = c .before .before .free-tag .ensures ∙ ap (λ (u : ℕ). freeTagOf u (t .result)) used ∙ ap (λ (k : ℕ). freeTagOf (usedTags (a .peer) (st .flows)) k) (t .ensures .0) in
+    let small : t .result % 8 ≡ t .result = omega (arith, t .ensures .2) in
+    let told = c .before .before .free-tag .ensures ∙ ap (λ (k : ℕ). freeTagOf (c .before .before .before .used-tags .result) k) small ∙ ap (λ (u : ℕ). freeTagOf u (t .result)) used ∙ ap (λ (k : ℕ). freeTagOf (usedTags (a .peer) (st .flows)) k) (t .ensures .0) in
     let found = sym told ∙ c .enum-told .given .1 in
     sent-as z b (t .last .0) st (Refused TagUnavailable) _ _ (sym (fresh-none (a .peer) (a .expires) (a .cookie) (tableOf st) found)) (refl, t .ensures .1)
 

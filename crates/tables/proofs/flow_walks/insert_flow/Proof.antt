@@ -42,7 +42,7 @@ put-flow-requires c κs =
     let clock : n .result .clock < 2 ^ 64 = rw (n .ensures .0, counted-clock) (h .clock) in
     let counter : n .result .counter < 2 ^ 32 = rw (n .ensures .0) (counted-counter _ _ (h .counter)) in
     let ok = new-ok (a .peer) (a .tag) (a .expires) (a .cookie) (n .result) (omega (arith, s .good .1 .1 .0)) (s .pre .1) (cookie-fits (a .cookie) (s .good .1 .1 .1 .1 .1 .0)) clock counter in
-    (n .ensures .1 .kept, search needs, subst (λ (x : Flow). FlowOk x) (sym (f .ensures)) ok)
+    (n .ensures .1 .kept, subst (λ (x : Flow). FlowOk x) (sym (f .ensures)) ok)
 
 same-length : tie.Need-same-length
 same-length c = search needs

@@ -27,7 +27,7 @@ no-flow-requires c κs = search needs
 
 put-flow-requires : tie.Need-put-flow-requires
 put-flow-requires c κs =
-    (c .before .before .before .before .before .before .pre, search needs, subst (λ (f : Flow). FlowOk f) (sym (c .no-flow .ensures)) no-flow-ok)
+    (c .before .before .before .before .before .before .pre, subst (λ (f : Flow). FlowOk f) (sym (c .no-flow .ensures)) no-flow-ok)
 
 same-length : tie.Need-same-length
 same-length c = search needs

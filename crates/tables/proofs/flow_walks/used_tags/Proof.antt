@@ -27,10 +27,10 @@ loop-holds : tie.Need-loop-holds Inv-loop μ-loop
 loop-holds c = (search needs, sym (used-none (c .before .args .peer)))
 
 flow-at-requires : tie.Need-flow-at-requires Inv-loop μ-loop
-flow-at-requires c κs = (c .before .before .before .pre, search needs)
+flow-at-requires c κs = c .before .before .before .pre
 
 mark-requires : tie.Need-mark-requires Inv-loop μ-loop
-mark-requires c κs = c .flow-at .ensures .1 .tag
+mark-requires c κs = c .flow-at .ensures .1
 
 add-i : tie.Need-add-i Inv-loop μ-loop
 add-i c = search needs
@@ -47,7 +47,7 @@ loop-again c =
     let st = stackOf z b in
     let loop = c .before .before .before .loop in
     let l = flows-length z b in
-    let k = flow-ok z b (s .pre) (loop .i) (omega arith) .tag in
+    let k = flow-ok z b (s .pre) (loop .i) .tag in
     let e = c .mark .ensures ∙ ap (λ (f : Flow). marked (a .peer) f (loop .used)) (c .before .flow-at .ensures .0) in
     (search needs, e ∙ ap (λ (u : ℕ). marked (a .peer) (flowAt (loop .i) st) u) (loop .inv .1) ∙ sym (used-next (a .peer) (st .flows) (loop .i) (omega arith) k))
 

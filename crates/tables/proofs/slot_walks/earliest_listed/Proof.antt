@@ -1,103 +1,13 @@
--- `earliest_listed` walks downward: `best` is the earliest of the slots from `i` on that pass.
-use denote.Ref.{now}
-use mathlib.Core.Path.{sym, _∙_}
+-- `earliest_listed` is `earliest_of` by cookie.
 use borrow.Author.Needs.{needs}
-use Prim.Native.Nat.{ℕ}
-use mathlib.Core.Bool.{Bool}
-use mathlib.Core.List.{List}
-use Rattle.reassemble.specs.declared.Reassembler.{Reassembler}
-use Rattle.reassemble.specs.Slot.{listed}
-use Rattle.tables.proofs.SlotSearch.{Seen, seen-bound, seen-start, seen-takes, seen-fails, seen-open, seen-done}
 use Rattle.tables.proofs.slot_walks.earliest_listed.Statement.{statement}
 use Rattle.tables.proofs.slot_walks.earliest_listed.Tie as tie
 
-abbrev listedSlot : List ℕ → Reassembler → Bool
-listedSlot cookies s = listed cookies (s .cookie)
+earliest-of-requires : tie.Need-earliest-of-requires
+earliest-of-requires c κs = search needs
 
-abbrev Inv-loop : tie.InvT-loop
-Inv-loop state sizes cookies best₀ i₀ best i = Seen sizes state (listedSlot cookies) i best
-
-abbrev μ-loop : tie.MeasureT-loop
-μ-loop state sizes cookies best₀ i₀ best i = i
-
-loop-holds : tie.Need-loop-holds Inv-loop μ-loop
-loop-holds c =
-    let s = c .before .before in
-    seen-start (s .args .sizes) (now (s .args .state)) (listedSlot (now (s .args .cookies)))
-
-sub-i : tie.Need-sub-i Inv-loop μ-loop
-sub-i c = search needs
-
-slot-at-requires : tie.Need-slot-at-requires Inv-loop μ-loop
-slot-at-requires c κs = (c .before .before .before .before .pre, search needs)
-
-is-done-requires : tie.Need-is-done-requires Inv-loop μ-loop
-is-done-requires c κs = search needs
-
-is-listed-requires : tie.Need-is-listed-requires Inv-loop μ-loop
-is-listed-requires c κs = search needs
-
-better-requires : tie.Need-better-requires Inv-loop μ-loop
-better-requires c κs =
-    let s = c .before .before .before .before .before .before .before .before .before in
-    let l = c .before .before .before .before .before .before .loop in
-    let f = listedSlot (now (s .args .cookies)) in
-    (s .pre, search needs, seen-bound (s .args .sizes) (now (s .args .state)) f (l .i) (l .best) (l .inv))
-
-loop-less : tie.Need-loop-less Inv-loop μ-loop
-loop-less c = search needs
-
-loop-again : tie.Need-loop-again Inv-loop μ-loop
-loop-again c =
-    let s = c .before .before .before .before .before .before .before .before .before .before in
-    let l = c .before .before .before .before .before .before .before .loop in
-    let f = listedSlot (now (s .args .cookies)) in
-    seen-takes (s .args .sizes) (now (s .args .state)) f (l .i) (l .best) (l .inv) (c .before .before .before .before .before .before .loop-test .taken) _ (c .before .before .before .before .before .slot-at .ensures .0) _
-    (sym (c .before .before .before .before .is-done .ensures) ∙ c .before .before .before .if1 .taken) (sym (c .before .before .is-listed .ensures) ∙ c .before .if2 .taken) (c .better .ensures)
-
-loop-less-2 : tie.Need-loop-less-2 Inv-loop μ-loop
-loop-less-2 c = search needs
-
-loop-again-2 : tie.Need-loop-again-2 Inv-loop μ-loop
-loop-again-2 c =
-    let s = c .before .before .before .before .before .before .before .before .before in
-    let l = c .before .before .before .before .before .before .loop in
-    let f = listedSlot (now (s .args .cookies)) in
-    seen-fails (s .args .sizes) (now (s .args .state)) f (l .i) (l .best) (l .inv) (c .before .before .before .before .before .loop-test .taken) _ (c .before .before .before .before .slot-at .ensures .0)
-    (sym (c .before .before .before .is-done .ensures) ∙ c .before .before .if1 .taken) (sym (c .before .is-listed .ensures) ∙ c .if2 .left)
-
-loop-less-3 : tie.Need-loop-less-3 Inv-loop μ-loop
-loop-less-3 c = search needs
-
-loop-again-3 : tie.Need-loop-again-3 Inv-loop μ-loop
-loop-again-3 c =
-    let s = c .before .before .before .before .before .before .before in
-    let l = c .before .before .before .before .loop in
-    let f = listedSlot (now (s .args .cookies)) in
-    seen-open (s .args .sizes) (now (s .args .state)) f (l .i) (l .best) (l .inv) (c .before .before .before .loop-test .taken) _ (c .before .before .slot-at .ensures .0)
-    (sym (c .before .is-done .ensures) ∙ c .if1 .left)
-
-returns : tie.Need-returns Inv-loop μ-loop
-returns c =
-    let s = c .before .before .before .before in
-    seen-done (s .args .sizes) (now (s .args .state)) (listedSlot (now (s .args .cookies))) (c .before .loop .i) (c .before .loop .best) (c .before .loop .inv) (c .loop-test .left)
+returns : tie.Need-returns
+returns c = c .earliest-of .ensures
 
 pub earliest-listed-spec : {M : Type 1} → statement M
-earliest-listed-spec =
-    tie.close
-    (tie.spec
-    Inv-loop
-    μ-loop
-    loop-holds
-    sub-i
-    slot-at-requires
-    is-done-requires
-    is-listed-requires
-    better-requires
-    loop-less
-    loop-again
-    loop-less-2
-    loop-again-2
-    loop-less-3
-    loop-again-3
-    returns)
+earliest-listed-spec = tie.close (tie.spec earliest-of-requires returns)

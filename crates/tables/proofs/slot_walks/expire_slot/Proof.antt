@@ -1,11 +1,9 @@
--- `expire_slot` asks the slot's time once: expired, the slot is blank, else as it was.
-use denote.Ref.{now}
+-- `expire_slot` asks the time once: expired, the slot is blank, else it is as it was.
 use mathlib.Core.Path.{sym, subst}
 use Rattle.reassemble.specs.declared.Reassembler.{Reassembler}
-use Rattle.reassemble.specs.Slot.{slotTimeout, fadedSlot}
 use Rattle.state.specs.Slot.{SlotOk}
-use Rattle.tables.proofs.SlotChecks.{blank-ok, slot-fades}
-use Rattle.tables.proofs.PartLoops.{slotPart, expire-gone, expire-stays}
+use Rattle.tables.proofs.SlotChecks.{blank-ok}
+use Rattle.tables.proofs.PartLoops.{timedSlots, expire-gone, expire-stays}
 use borrow.Author.Needs.{needs}
 use Rattle.tables.proofs.slot_walks.expire_slot.Statement.{statement}
 use Rattle.tables.proofs.slot_walks.expire_slot.Tie as tie
@@ -16,8 +14,8 @@ slot-at-requires c κs = search needs
 check-expired-requires : tie.Need-check-expired-requires
 check-expired-requires c κs = search needs
 
-sooner-requires : tie.Need-sooner-requires
-sooner-requires c κs = search needs
+noted-requires : tie.Need-noted-requires
+noted-requires c κs = search needs
 
 is-expired-requires : tie.Need-is-expired-requires
 is-expired-requires c κs = search needs
@@ -28,31 +26,26 @@ blank-requires c κs = search needs
 put-slot-requires : tie.Need-put-slot-requires
 put-slot-requires c κs =
     let B = c .before .before .before .before .before .before .before .before .before .args .sizes .body in
-    (search needs, search needs, subst (λ (s : Reassembler). SlotOk B s) (sym (c .blank .ensures)) (blank-ok B))
+    (search needs, subst (λ (s : Reassembler). SlotOk B s) (sym (c .blank .ensures)) (blank-ok B))
 
 same-length : tie.Need-same-length
 same-length c = search needs
 
 returns : tie.Need-returns
 returns c =
-    let s = c .before .before .before .before .before .before .before .before .before .before .before .before in
-    let a = s .args in
     let g = c .before .before .before .before .before in
     let t = g .before .before .before in
-    expire-gone slotPart (a .sizes) (slotTimeout (a .clock)) (fadedSlot (a .clock)) (slot-fades (a .clock)) (now (a .state)) (a .i) (a .c) _ _ _ _
-    (t .before .slot-at .ensures .0) (t .check-expired .ensures) (g .before .before .sooner .ensures .0) (g .before .is-expired .ensures) (g .if1 .taken)
-    _ _ (c .before .before .before .blank .ensures) (c .before .before .put-slot .ensures)
+    expire-gone timedSlots _ _ _ _ _ (t .before .slot-at .ensures .0) (t .check-expired .ensures) (g .before .before .noted .ensures) (g .before .is-expired .ensures)
+    (g .if1 .taken) (c .before .before .before .blank .ensures) (c .before .before .put-slot .ensures)
 
 same-length-2 : tie.Need-same-length-2
 same-length-2 c = search needs
 
 returns-2 : tie.Need-returns-2
 returns-2 c =
-    let s = c .before .before .before .before .before .before .before in
-    let a = s .args in
     let t = c .before .before .before in
-    expire-stays slotPart (a .sizes) (slotTimeout (a .clock)) (fadedSlot (a .clock)) (slot-fades (a .clock)) (now (a .state)) (a .i) (a .c) _ _ _ _
-    (t .before .slot-at .ensures .0) (t .check-expired .ensures) (c .before .before .sooner .ensures .0) (c .before .is-expired .ensures) (c .if1 .left) (s .pre .0)
+    expire-stays timedSlots _ _ _ _ _ (t .before .slot-at .ensures .0) (t .check-expired .ensures) (c .before .before .noted .ensures) (c .before .is-expired .ensures)
+    (c .if1 .left) (t .before .before .before .before .pre .0)
 
 pub expire-slot-spec : {M : Type 1} → statement M
 expire-slot-spec =
@@ -60,7 +53,7 @@ expire-slot-spec =
     (tie.spec
     slot-at-requires
     check-expired-requires
-    sooner-requires
+    noted-requires
     is-expired-requires
     blank-requires
     put-slot-requires

@@ -44,7 +44,7 @@ blank-requires c κs = search needs
 put-slot-requires : tie.Need-put-slot-requires
 put-slot-requires c κs =
     let B = c .before .before .before .before .before .before .before .before .before .args .sizes .body in
-    (search needs, search needs, subst (λ (s : Reassembler). SlotOk B s) (sym (c .blank .ensures)) (blank-ok B))
+    (search needs, subst (λ (s : Reassembler). SlotOk B s) (sym (c .blank .ensures)) (blank-ok B))
 
 same-length-2 : tie.Need-same-length-2
 same-length-2 c = search needs

@@ -1,4 +1,4 @@
--- `write` meets its contract: the first packet, a later one, or nothing, as the plan says.
+-- `write_plan` meets its contract: the first packet, a later one, or nothing, as the plan says.
 use native.Mathlib.Omega.{arith}
 use mathlib.Core.Path.{sym, ap, _∙_}
 use mathlib.Core.List.{List}
@@ -9,8 +9,8 @@ use Rattle.octets.proofs.Part.{over-nil}
 use Rattle.mctp.specs.Header.{lead}
 use Rattle.fragment.proofs.Plans.{writes-first, writes-later, writes-none}
 use borrow.Author.Needs.{needs}
-use Rattle.fragment.proofs.write.Statement.{statement}
-use Rattle.fragment.proofs.write.Tie as tie
+use Rattle.fragment.proofs.write_plan.Statement.{statement}
+use Rattle.fragment.proofs.write_plan.Tie as tie
 
 write-first-requires : tie.Need-write-first-requires
 write-first-requires c κs =
@@ -51,8 +51,8 @@ returns-3 c =
     let z = c .before .before .before .args in
     sym (ap (λ (b : List ℕ). over 0 b (now (z .out))) (writes-none (z .plan) (now (z .payload)) (c .if1 .left)) ∙ over-nil 0 (now (z .out)))
 
-pub write-spec : {M : Type 1} → statement M
-write-spec =
+pub write-plan-spec : {M : Type 1} → statement M
+write-plan-spec =
     tie.close
     (tie.spec
     write-first-requires

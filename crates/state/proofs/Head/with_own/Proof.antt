@@ -1,0 +1,13 @@
+-- Another own EID plans no check, so the one that is planned is as soon as before.
+use borrow.Author.Needs.{needs}
+use Rattle.state.proofs.Head.with_own.Statement.{statement}
+use Rattle.state.proofs.Head.with_own.Tie as tie
+
+with-requires : tie.Need-with-requires
+with-requires c κs = search needs
+
+returns : tie.Need-returns
+returns c = (c .with .ensures .0, c .with .ensures .1 (c .before .before .pre .soon))
+
+pub with-own-spec : {M : Type 1} → statement M
+with-own-spec = tie.close (tie.spec with-requires returns)
