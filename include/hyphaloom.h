@@ -136,7 +136,7 @@ struct hyphaloom_next {
 /*
  * Makes a new stack in the first 2,248 bytes of `state`. `own` is its EID and may be any number. `mtu` is for sends that name
  * none.
- * NO_SPACE: the buffer is too short. BAD_ARGUMENT: MTU under 5.
+ * BAD_ARGUMENT: MTU under 5. NO_SPACE: the buffer is too short.
  */
 uint8_t hyphaloom_new(uint8_t *state, size_t state_len, uint8_t own, size_t mtu, uint64_t clock);
 

@@ -42,7 +42,8 @@ fn any_number_but_0_is_yes() {
 fn buffers_of_other_lengths() {
     let mut short = vec![0xee; raw::STATE - 1];
     assert_eq!(raw::new(&mut short, 8, 64, 0), 2);
-    assert_eq!(raw::new(&mut [], 8, 4, 0), 2);
+    assert_eq!(raw::new(&mut [], 8, 64, 0), 2);
+    assert_eq!(raw::new(&mut [], 8, 4, 0), 3);
     assert!(short.iter().all(|b| *b == 0xee));
     let long = fresh(raw::STATE + 9);
     assert_eq!(long[..raw::STATE], fresh(raw::STATE)[..]);

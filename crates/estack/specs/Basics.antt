@@ -48,12 +48,12 @@ freshStack z own mtu clock = record {
   slots = replicate (z .slots) blankSlot;
 }
 
--- what `new` says: a state buffer that is too short is NoSpace, sizes that no state has and an MTU under 5 are BadArgument
+-- what `new` says: an MTU under 5 is BadArgument, and so are sizes that no state has; a state buffer that is too short is NoSpace
 unfoldable pub newSays : Sizes → ℕ → ℕ → Done
 newSays z room mtu =
-    pick (ltb 255 (z .slots)) (Refused BadArgument)
-    (pick (ltb 65535 (z .body)) (Refused BadArgument)
-    (pick (ltb room (size z)) (Refused NoSpace) (pick (ltb mtu 5) (Refused BadArgument) Well)))
+    pick (ltb mtu 5) (Refused BadArgument)
+    (pick (ltb 255 (z .slots)) (Refused BadArgument)
+    (pick (ltb 65535 (z .body)) (Refused BadArgument) (pick (ltb room (size z)) (Refused NoSpace) Well)))
 
 -- what `new` makes of a buffer: a fresh stack at its front and the rest as it was, or nothing where it refuses
 abbrev pub NewMakes : Done → Sizes → Eid → ℕ → ℕ → List ℕ → List ℕ → Type 0

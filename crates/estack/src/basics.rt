@@ -19,18 +19,18 @@ pub fn new(state: &mut [u8], sizes: Sizes, own: Eid, mtu: usize, clock: u64) -> 
     ensures said { λ r. ⌜ r ≡ newSays sizes (length (now (state .entry))) mtu ⌝ }
     ensures stack { λ r. ⌜ NewMakes r sizes own mtu clock (now (state .entry)) (now (state .exit)) ⌝ }
 {
+    if mtu < 5 {
+        return Done::Refused(Error::BadArgument);
+    }
     if 255 < sizes.slots {
         return Done::Refused(Error::BadArgument);
     }
     if 65535 < sizes.body {
         return Done::Refused(Error::BadArgument);
     }
-    let size = 2088 + 40 * sizes.slots;
+    let size = state::SLOTS_AT + state::SLOT_WIDTH * sizes.slots;
     if state.len() < size {
         return Done::Refused(Error::NoSpace);
-    }
-    if mtu < 5 {
-        return Done::Refused(Error::BadArgument);
     }
     state::clear(state, size);
     let stamp = EventStamp {

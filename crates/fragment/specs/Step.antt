@@ -143,7 +143,7 @@ pub record Writable (p : Plan) (size n : ℕ) : Type 0 where
   pub within : p .writes ≡ true → p .from + p .len ≤ size
   pub room : p .writes ≡ true → lead (p .header .som) + p .len ≤ n
 
--- what a fragmenter is that `new` gave and steps changed
+-- the ranges of a fragmenter that `new` gave and steps changed
 pub record Sound (f : Fragmenter) : Type 0 where
   pub seq : f .seq < 4
   pub tag : tagOf (f .tag) .0 < 8

@@ -1,5 +1,5 @@
 -- The terms of document 01: EIDs, tags, keys, cookies, and the numbers of the refusals.
--- Two keys are one where `sameKey` says so; nothing takes a key apart.
+-- Two keys are one where `sameKey` says so.
 -- Leans on `pick` alone.
 use Prim.Native.Nat.{ℕ}
 use mathlib.Core.Bool.{Bool, true, false, not}

@@ -29,13 +29,16 @@ use Rattle.reassemble.specs.Enter.{enter, append, appended, outcomeOf}
 use Rattle.fragment.specs.Cutting.{bodyIn, saysSom}
 use Rattle.state.specs.Stack.{Stack, slotAt}
 use Rattle.tables.specs.Walks.{ticked}
+use Rattle.receiving.specs.declared.ReceiveHandle.{ReceiveHandle}
 use Rattle.receiving.specs.declared.Received.the-variants.{More}
-use Rattle.receiving.specs.Receive.{Receipt, nextIssue, saidOf, settled, land, opening, gateOf, receiveAt, receiveBy, receiveOf}
+use Rattle.receiving.specs.Receive.{Receipt, receivedAs, nextIssue, saidOf, settled, land, opening, gateOf, receiveAt, receiveBy, receiveOf}
 use Rattle.promises.specs.Calls.{World, receive, step, receipt}
+use Rattle.estack.specs.Handles.{messageIn}
 use Rattle.promises.specs.Delivery.{Hands}
 use Rattle.promises.proofs.Pool.{slot-le, bodyAt, pool-length, body-append}
 use Rattle.promises.proofs.Clock.{next-clock, opening-clock}
 use Rattle.promises.proofs.Outcome.{opening-slots}
+use Rattle.promises.proofs.Fetch.{fetch-is}
 
 -- a slot that has collected n bytes under K
 abbrev pub gathering : Key → MsgType → MsgIC → ℕ → ℕ → EventStamp → Cookie → Reassembler
@@ -145,15 +148,26 @@ module _ (B : ℕ) (K : Key) (typ : MsgType) (ic : MsgIC) (cookie : Cookie) (t�
     unfolding entry st₁ issue₁
     said-after = ap (λ (r : Receipt). r .said) arrives
 
+    room-after : B * length (w₁ .stack .slots) ≤ length (w₁ .pool)
+    room-after = rw (slots-after, pool-after, length-set (w .stack .slots) j stored, pool-length B j (length bytes) (bodyIn p) (w .pool) (o .fits) holds) (o .room)
+
+    inside-after : j < length (w₁ .stack .slots)
+    inside-after = rw (slots-after, length-set (w .stack .slots) j stored) (o .inside)
+
     -- the last hands the message out
     pub hands : h .eom ≡ true → Hands B (record { key = K; typ = typ; ic = ic; body = bytes ++ bodyIn p; cookie = cookie }) p w
     unfolding w₁ stored base pick
     hands e = record {
-      handle = record { index = j; issue = issue₁ };
-      told = said-after ∙ ap (λ (b : Bool). saidOf (outcomeOf b) j issue₁) e;
+      handle = handle;
+      told = ap receivedAs (said-after ∙ ap (λ (b : Bool). saidOf (outcomeOf b) j issue₁) e);
+      facts = messageIn B j (slotAt j (w₁ .stack));
+      fetched = fetch-is B handle (w₁ .stack) (length (w₁ .pool)) room-after inside-after (ap (λ (s : Reassembler). s .state) made);
       message = rw made (ap (λ (b : List ℕ). record { key = K; typ = typ; ic = ic; body = b; cookie = cookie }) body-after);
     }
       where
+        handle : ReceiveHandle
+        handle = record { index = j; issue = issue₁ }
+
         made : slotAt j (w₁ .stack) ≡ appended true now₁ issue₁ (length (bodyIn p)) base
         made = slot-after ∙ ap (λ (b : Bool). appended b now₁ issue₁ (length (bodyIn p)) base) e
 
@@ -167,7 +181,7 @@ module _ (B : ℕ) (K : Key) (typ : MsgType) (ic : MsgIC) (cookie : Cookie) (t�
         slot = made;
         since = o .since now₁ clock-now;
         later = rw clock-after (o .later);
-        room = rw (slots-after, pool-after, length-set (w .stack .slots) j stored, pool-length B j (length bytes) (bodyIn p) (w .pool) (o .fits) holds) (o .room);
+        room = room-after;
         first = λ k q. rw (slots-after, getD-set-other (w .stack .slots) j k stored blankSlot (omega arith)) (o .first k q);
         body = rw length-append body-after;
       },

@@ -1,7 +1,7 @@
 -- From a fragment that has come to its slot to the last: what waits goes on waiting through permitted calls, and each later fragment finds it.
 use Prim.Native.Nat.{ℕ, _+_, _%_, _≤_, _<_}
 use native.Mathlib.Omega.{arith}
-use mathlib.Core.Path.{_≡_, refl, _∙_}
+use mathlib.Core.Path.{_≡_, refl, ap, _∙_}
 use mathlib.Core.Bool.{Bool, true, false}
 use mathlib.Core.List.{List, [], _∷_, _++_, append-nil, append-assoc}
 use lib.ListN.{length, length-append}
@@ -19,6 +19,7 @@ use Rattle.reassemble.specs.Enter.{gate, enter}
 use Rattle.fragment.specs.Cutting.{PacketIs, InTurn, bodyIn, joined}
 use Rattle.state.specs.Stack.{slotAt}
 use Rattle.promises.specs.Calls.{World, Call, receive, step, steps, permitted}
+use Rattle.receiving.specs.Receive.{receivedAs}
 use Rattle.promises.specs.Delivery.{nextGap, laterGaps, Delivers, allOf}
 use Rattle.promises.proofs.Facts.{no-both, is-false, and-left, and-right, same-refl}
 use Rattle.promises.proofs.Slots.{passes-in, find-is}
@@ -110,7 +111,7 @@ module _ (B : ℕ) (K : Key) (typ : MsgType) (ic : MsgIC) (cookie : Cookie) (t�
       let had : length (bytes ++ bodyIn p) ≡ length bytes + length (bodyIn p) = length-append bytes (bodyIn p) in
       let t = collects-more B K typ ic cookie t₀ j bytes (headed K som false number) p w (o false (turn .0)) refl in
       let u = wait-steps ((number + 1) % 4) (bytes ++ bodyIn p) (omega arith) (nextGap gaps) (next-ok gaps ok) (step B (receive p) w) (t .1) in (
-        t .0,
+        ap receivedAs (t .0),
         rw append-assoc at (delivers-from ps q mtu false ((number + 1) % 4) (bytes ++ bodyIn p) (laterGaps gaps) (steps B (nextGap gaps) (step B (receive p) w)) (turn .1)
             (λ eom is. later-poised mtu ((number + 1) % 4) eom (bytes ++ bodyIn p) q (steps B (nextGap gaps) (step B (receive p) w)) u is (omega arith))
             (omega arith) (later-ok gaps ok)),

@@ -21,10 +21,11 @@ use Rattle.reassemble.specs.Slot.{collects}
 use Rattle.reassemble.specs.Enter.{opening, opened, gateReply, gateEmpty}
 use Rattle.fragment.specs.Cutting.{PacketIs, InTurn, bodyIn, joined, kindIn}
 use Rattle.state.specs.Stack.{slotAt}
-use Rattle.receiving.specs.declared.ReceiveHandle.{ReceiveHandle}
-use Rattle.receiving.specs.declared.Received.the-variants.{Message as Told}
+use Rattle.estack.specs.declared.Fetched.{Fetched}
+use Rattle.estack.specs.declared.Fetched.the-variants.{Message as Fetch}
+use Rattle.estack.specs.Handles.{fetchOf}
 use Rattle.promises.specs.Calls.{World, Call, receive, step, steps}
-use Rattle.promises.specs.Delivery.{Message, messageAt, nextGap, laterGaps, Delivers, collecting, vacancy, cookieFor, Lawful}
+use Rattle.promises.specs.Delivery.{Message, readFrom, nextGap, laterGaps, Delivers, collecting, vacancy, cookieFor, Lawful}
 use Rattle.promises.proofs.Facts.{no-true}
 use Rattle.promises.proofs.Arrive.{Poised}
 use Rattle.promises.proofs.Deliver.{headed, delivers-from}
@@ -106,9 +107,14 @@ pub one-message : (B : ℕ) (ps : List (List ℕ)) (gaps : List (List Call)) (w 
 unfolding Delivers
 one-message B [] gaps w m m′ d d′ = absurd d
 one-message B (p ∷ []) gaps w m m′ d d′ =
-    let e : Told (d .handle) ≡ Told (d′ .handle) = sym (d .told) ∙ d′ .told in
-    let h : d .handle ≡ d′ .handle = cc in
-    sym (d .message) ∙ ap (λ (x : ReceiveHandle). messageAt B (x .index) (step B (receive p) w)) h ∙ d′ .message
+    let e = sym (d .told) ∙ d′ .told in
+    let i : d .handle .index ≡ d′ .handle .index = cc in
+    let n : d .handle .issue ≡ d′ .handle .issue = cc in
+    let after = step B (receive p) w in
+    let fetch : ℕ → ℕ → Fetched = λ j k. fetchOf B (record { index = j; issue = k }) (after .stack) (length (after .pool)) in
+    let f : Fetch (d .facts) ≡ Fetch (d′ .facts) = sym (d .fetched) ∙ ap (λ (j : ℕ). fetch j (d .handle .issue)) i ∙ ap (fetch (d′ .handle .index)) n ∙ d′ .fetched in
+    let g : d .facts ≡ d′ .facts = cc in
+    sym (d .message) ∙ ap (readFrom (after .pool)) g ∙ d′ .message
 one-message B (p ∷ q ∷ ps) gaps w m m′ d d′ = one-message B (q ∷ ps) (laterGaps gaps) (steps B (nextGap gaps) (step B (receive p) w)) m m′ (d .1) (d′ .1)
 
 -- two runs of one message from one world, with different permitted calls between, hand out equal messages

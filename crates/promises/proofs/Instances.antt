@@ -23,11 +23,10 @@ use Rattle.reassemble.specs.Search.{slotFor}
 use Rattle.reassemble.specs.Enter.{isLocal, opening, gate, gateEmpty, gateReply, enter, append}
 use Rattle.tables.specs.Walks.{leastLeft}
 use Rattle.fragment.specs.Cutting.{InTurn, joined, kindIn, Carries}
-use Rattle.receiving.specs.declared.Received.the-variants.{Message as Handed}
 use Rattle.estack.specs.declared.Send.{Send}
 use Rattle.estack.specs.declared.SendTag.the-variants.{Fresh}
 use Rattle.estack.specs.declared.SendMtu.the-variants.{Own}
-use Rattle.receiving.specs.Receive.{nextIssue, land, receiveAt, receiveBy, receiveOf}
+use Rattle.receiving.specs.Receive.{receivedAs, nextIssue, land, receiveAt, receiveBy, receiveOf}
 use Rattle.estack.specs.Sends.{granted, ownedSend, tagSend, startSendOf}
 use Rattle.estack.specs.Update.{checked, updateOf}
 use Rattle.estack.specs.Basics.{freshStack}
@@ -157,7 +156,7 @@ taken = receive [] ∷ receive (0x01 ∷ 0x08 ∷ 0x09 ∷ 0x5A ∷ []) ∷ rece
 abbrev third : List ℕ
 third = 0x01 ∷ 0x08 ∷ 0x09 ∷ 0x5A ∷ 0xBB ∷ 0xCC ∷ []
 
-third-handed : receipt 1032 third (steps 1032 taken start) .said ≡ Handed (record { index = 0; issue = 1 })
+third-handed : receivedAs (receipt 1032 third (steps 1032 taken start) .said) ≡ 0 ∷ 0 ∷ 1 ∷ []
 unfolding isLocal find pick steps step next updateOf checked clocked expired timeoutOf fadedFlow fadedSlot leastLeft receiveOf receiveBy receiveAt headerOf slotFor gate
     gateEmpty gateReply opening land enter append nextIssue sameKey sameBool over
 third-handed = refl

@@ -4,6 +4,7 @@ pub mod Slots
 pub mod Pool
 pub mod Gate
 pub mod Outcome
+pub mod Fetch
 pub mod Clock
 pub mod Walks
 pub mod Quiet
@@ -23,3 +24,4 @@ pub mod Bits
 pub mod ShutOut
 pub mod EndToEnd
 pub mod Figures
+pub mod Stale

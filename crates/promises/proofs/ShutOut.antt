@@ -44,6 +44,7 @@ use Rattle.promises.proofs.Facts.{no-both, no-true}
 use Rattle.promises.proofs.Slots.{collects-state}
 use Rattle.promises.proofs.Gate.{Source, collected, opens}
 use Rattle.promises.proofs.Outcome.{Took, Outcome, quiet, dropped, took, receive-outcome}
+use Rattle.promises.proofs.Fetch.{zero-takes}
 use Rattle.promises.proofs.HandOut.{hands-out, one-message}
 use Rattle.promises.proofs.Least.{LeastOf, least-left}
 use Rattle.promises.proofs.Bits.{howMany, all-bits}
@@ -54,8 +55,8 @@ use Rattle.promises.proofs.Bits.{howMany, all-bits}
 pub not-refused : (B : ℕ) (K : Key) (typ : MsgType) (ic : MsgIC) (mtu : ℕ) (body p : List ℕ) (ps : List (List ℕ)) (gaps : List (List Call)) (w : World)
     → Lawful B K typ ic mtu body (p ∷ ps) gaps w → takes (receipt B p w .said) ≡ true
 unfolding Delivers
-not-refused B K typ ic mtu body p [] gaps w law = ap takes (hands-out B K typ ic mtu body (p ∷ []) gaps w law .told)
-not-refused B K typ ic mtu body p (q ∷ ps) gaps w law = ap takes (hands-out B K typ ic mtu body (p ∷ q ∷ ps) gaps w law .0)
+not-refused B K typ ic mtu body p [] gaps w law = zero-takes (receipt B p w .said) _ (hands-out B K typ ic mtu body (p ∷ []) gaps w law .told)
+not-refused B K typ ic mtu body p (q ∷ ps) gaps w law = zero-takes (receipt B p w .said) _ (hands-out B K typ ic mtu body (p ∷ q ∷ ps) gaps w law .0)
 
 -- ---- one that hands out the same message always
 

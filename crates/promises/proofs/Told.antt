@@ -18,13 +18,14 @@ use Rattle.state.specs.Stack.{Stack}
 use Rattle.receiving.specs.declared.ReceiveHandle.{ReceiveHandle}
 use Rattle.receiving.specs.declared.Received.{Received}
 use Rattle.receiving.specs.declared.Received.the-variants.{Message as Handed}
-use Rattle.receiving.specs.Receive.{Receipt, saidOf, receiveOf}
+use Rattle.receiving.specs.Receive.{Receipt, receivedAs, saidOf, receiveOf}
 use Rattle.estack.specs.Handles.{messageIn}
 use Rattle.promises.specs.Calls.{Call, receive, elsewhere, update, startSend, cancelFlow, getDeferred, getDeferredByCookie, fetchMessage, finishedReceive, returnHandle, setCookie, setEid, eid, isLocalDest, freeTags, World, step, steps, receipt, hasKey}
 use Rattle.promises.specs.Delivery.{readFrom, messageAt, allOf}
 use Rattle.promises.specs.History.{Taken, takes, note, noted, logged, history, lentHere, since, gathered, Exactly}
 use Rattle.promises.proofs.Facts.{no-both, no-true, and-left, and-right, same-refl}
 use Rattle.promises.proofs.Outcome.{Took, Outcome, quiet, dropped, took, receive-outcome}
+use Rattle.promises.proofs.Fetch.{as-told}
 use Rattle.promises.proofs.Since.{since-all}
 use Rattle.promises.proofs.Story.{Story, Inv}
 use Rattle.promises.proofs.Taking.{taken, pool-now, slot-now, own, here-slot, key-now}
@@ -70,13 +71,13 @@ module _ (B : ℕ) (H : List Taken) (w : World) (v : Inv B H w) (p : List ℕ) (
 -- exactly what was taken under its key since the newest opening packet: numbered in turn modulo four, of the opening packet's type, IC and cookie, and, if
 -- all of it came with the pool that we watch, with those bytes for its body
 pub told : (B : ℕ) (w₀ : World) → allOf isEmpty (w₀ .stack .slots) ≡ true → B * length (w₀ .stack .slots) ≤ length (w₀ .pool)
-    → (cs : List Call) (p : List ℕ) (h : ReceiveHandle) → receipt B p (steps B cs w₀) .said ≡ Handed h
+    → (cs : List Call) (p : List ℕ) (h : ReceiveHandle) → receivedAs (receipt B p (steps B cs w₀) .said) ≡ 0 ∷ h .index ∷ h .issue ∷ []
     → Exactly (messageAt B (h .index) (step B (receive p) (steps B cs w₀))) p (logged B (receive p) (steps B cs w₀) (history B cs w₀ []))
 unfolding step logged pick
 told B w₀ e room cs p h said =
     let w = steps B cs w₀ in
     outcome-exact B (history B cs w₀ []) w (steps-inv B cs [] w₀ (fresh-inv B w₀ e room)) p h
-    (receiveOf B (w .stack) (length (w .pool)) p) (receive-outcome B (w .stack) p (length (w .pool))) said
+    (receiveOf B (w .stack) (length (w .pool)) p) (receive-outcome B (w .stack) p (length (w .pool))) (as-told (receipt B p w .said) h said)
 
 -- ---- where every receive is lent that pool
 
@@ -117,7 +118,7 @@ history-here B (c ∷ cs) q w H a =
 
 -- the same, with that pool at every receive: the body is those bytes, and no condition is left
 pub told-here : (B : ℕ) (w₀ : World) → allOf isEmpty (w₀ .stack .slots) ≡ true → B * length (w₀ .stack .slots) ≤ length (w₀ .pool)
-    → (cs : List Call) → allOf lentHere cs ≡ true → (p : List ℕ) (h : ReceiveHandle) → receipt B p (steps B cs w₀) .said ≡ Handed h
+    → (cs : List Call) → allOf lentHere cs ≡ true → (p : List ℕ) (h : ReceiveHandle) → receivedAs (receipt B p (steps B cs w₀) .said) ≡ 0 ∷ h .index ∷ h .issue ∷ []
     → messageAt B (h .index) (step B (receive p) (steps B cs w₀)) .body
     ≡ gathered (since (messageAt B (h .index) (step B (receive p) (steps B cs w₀)) .key) (logged B (receive p) (steps B cs w₀) (history B cs w₀ [])))
 told-here B w₀ e room cs q p h said =

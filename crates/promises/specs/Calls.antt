@@ -1,4 +1,4 @@
--- Every public call with all its arguments, what it makes of a stack and of the pool that we watch, and what it answers: through the definitions that the
+-- Every public call on a stack with all its arguments, and what it makes of the stack and of the pool that we watch: through the definitions that the
 -- contracts of `estack` cite, and nothing else: it leans on those. B is the most that a body holds.
 -- A receive comes in two kinds: lent the watched pool, or lent any other buffer. No other call writes a pool.
 use Prim.Native.Nat.{ℕ, _+_, _≤_}
@@ -16,20 +16,14 @@ use Rattle.mctp.specs.declared.HeaderRead.{HeaderRead}
 use Rattle.mctp.specs.declared.HeaderRead.the-variants.{Good, Bad}
 use Rattle.mctp.specs.Terms.{sameKey, sameEid, sameTag}
 use Rattle.mctp.specs.Header.{headerOf}
-use Rattle.fragment.specs.declared.Started.{Started}
 use Rattle.state.specs.Stack.{Stack}
 use Rattle.receiving.specs.declared.ReceiveHandle.{ReceiveHandle}
-use Rattle.receiving.specs.declared.Received.{Received}
-use Rattle.estack.specs.declared.Done.{Done}
-use Rattle.estack.specs.declared.Updated.{Updated}
-use Rattle.estack.specs.declared.Deferred.{Deferred}
-use Rattle.estack.specs.declared.Fetched.{Fetched}
 use Rattle.estack.specs.declared.Send.{Send}
 use Rattle.receiving.specs.Receive.{Receipt, receiveOf}
-use Rattle.estack.specs.Handles.{finishOf, returnOf, cookieOf, fetchOf, bySourceOf, byCookieOf}
+use Rattle.estack.specs.Handles.{finishOf, returnOf, cookieOf, bySourceOf, byCookieOf}
 use Rattle.estack.specs.Sends.{startSendOf}
 use Rattle.estack.specs.Update.{updateOf}
-use Rattle.estack.specs.Basics.{setEidOf, localOf, cancelOf, freeTagsOf}
+use Rattle.estack.specs.Basics.{setEidOf, cancelOf}
 
 pub data Call : Type 0 where
   receive : List ℕ → Call  -- a packet, lent the pool that we watch
@@ -80,35 +74,6 @@ step B (freeTags peer) w = w
 unfoldable pub steps : ℕ → List Call → World → World
 steps B [] w = w
 steps B (c ∷ cs) w = steps B cs (step B c w)
-
--- what a call answers
-pub data Answer : Type 0 where
-  received : Received → Answer
-  updated : Updated → Answer
-  started : Started → Answer
-  deferred : Deferred → Answer
-  fetched : Fetched → Answer
-  done : Done → Answer
-  own : Eid → Answer
-  local : Bool → Answer
-  free : ℕ → Answer
-
-unfoldable pub answer : ℕ → Call → World → Answer
-answer B (receive p) w = received (receipt B p w .said)
-answer B (elsewhere n p) w = received (receiveOf B (w .stack) n p .said)
-answer B (update t) w = updated (updateOf t (w .stack) .said)
-answer B (startSend q) w = started (startSendOf q (w .stack) .said)
-answer B (cancelFlow peer tag) w = done (cancelOf peer tag (w .stack) .said)
-answer B (getDeferred source tag) w = deferred (bySourceOf source tag (w .stack) .said)
-answer B (getDeferredByCookie cookies) w = deferred (byCookieOf cookies (w .stack) .said)
-answer B (fetchMessage h n) w = fetched (fetchOf B h (w .stack) n)
-answer B (finishedReceive h) w = done (finishOf h (w .stack) .said)
-answer B (returnHandle h) w = done (returnOf h (w .stack) .said)
-answer B (setCookie h cookie) w = done (cookieOf h cookie (w .stack) .said)
-answer B (setEid n) w = done (setEidOf n (w .stack) .said)
-answer B eid w = own (w .stack .head .«own_eid»)
-answer B (isLocalDest p) w = local (localOf p (w .stack))
-answer B (freeTags peer) w = free (freeTagsOf peer (w .stack))
 
 -- p is a packet of that key
 abbrev pub hasKey : Key → HeaderRead → Bool

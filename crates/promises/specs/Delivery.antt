@@ -23,10 +23,10 @@ use Rattle.reassemble.specs.Enter.{isLocal}
 use Rattle.state.specs.Stack.{Stack, slotAt}
 use Rattle.fragment.specs.Cutting.{Carries}
 use Rattle.receiving.specs.declared.ReceiveHandle.{ReceiveHandle}
-use Rattle.receiving.specs.declared.Received.{Received}
-use Rattle.receiving.specs.declared.Received.the-variants.{More, Message as Told}
+use Rattle.receiving.specs.Receive.{receivedAs}
 use Rattle.estack.specs.declared.Message.{Message as Facts}
-use Rattle.estack.specs.Handles.{messageIn}
+use Rattle.estack.specs.declared.Fetched.the-variants.{Message as Fetch}
+use Rattle.estack.specs.Handles.{messageIn, fetchOf}
 use Rattle.promises.specs.Calls.{World, Call, receive, step, steps, receipt, permitted}
 
 -- what is handed out: key, type, IC, body and cookie
@@ -45,11 +45,13 @@ readFrom pool m = record { key = m .key; typ = m .typ; ic = m .ic; body = part (
 abbrev pub messageAt : ℕ → ℕ → World → Message
 messageAt B i w = readFrom (w .pool) (messageIn B i (slotAt i (w .stack)))
 
--- the packet p hands out m: it is answered with a handle, and m is what lies under it
+-- the packet p hands out m: it is answered 0 with a handle's index and number, and a fetch under that handle, lent the same pool, gives m
 pub record Hands (B : ℕ) (m : Message) (p : List ℕ) (w : World) : Type 0 where
   pub handle : ReceiveHandle
-  pub told : receipt B p w .said ≡ Told handle
-  pub message : messageAt B (handle .index) (step B (receive p) w) ≡ m
+  pub told : receivedAs (receipt B p w .said) ≡ 0 ∷ handle .index ∷ handle .issue ∷ []
+  pub facts : Facts
+  pub fetched : fetchOf B handle (step B (receive p) w .stack) (length (step B (receive p) w .pool)) ≡ Fetch facts
+  pub message : readFrom (step B (receive p) w .pool) facts ≡ m
 
 -- the calls before the next packet, and those after it
 abbrev pub nextGap : List (List Call) → List Call
@@ -60,12 +62,12 @@ abbrev pub laterGaps : List (List Call) → List (List Call)
 laterGaps [] = []
 laterGaps (g ∷ gs) = gs
 
--- the packets come in order, lent the watched pool, with calls after each: every one before the last is answered "more", the last hands out m
+-- the packets come in order, lent the watched pool, with calls after each: every one before the last is answered 0 and no handle, the last hands out m
 unfoldable pub Delivers : ℕ → Message → List (List ℕ) → List (List Call) → World → Type 0
 Delivers B m [] gaps w = ⊥
 Delivers B m (p ∷ []) gaps w = Hands B m p w
 Delivers B m (p ∷ q ∷ ps) gaps w =
-    (receipt B p w .said ≡ More) × Delivers B m (q ∷ ps) (laterGaps gaps) (steps B (nextGap gaps) (step B (receive p) w))
+    (receivedAs (receipt B p w .said) ≡ 0 ∷ []) × Delivers B m (q ∷ ps) (laterGaps gaps) (steps B (nextGap gaps) (step B (receive p) w))
 
 abbrev pub allOf : {A : Type 0} → (A → Bool) → List A → Bool
 allOf f [] = true

@@ -88,14 +88,18 @@ tags (peer ∷ l) st =
     let r = startSendOf (question peer Own) st in
     started (λ f. tag (tagOf (f .tag) .0) ∷ []) (r .said) ++ tags l (r .stack)
 
-abbrev pub told : Received → Message → Shown
-told More m = more
-told (Told h) m = message (m .key .source .0) (m .typ .0) (m .body)
-told (Unreceived err) m = refused (errorNo err)
+abbrev pub shown : Message → Shown
+shown m = message (m .key .source .0) (m .typ .0) (m .body)
 
--- what a packet is answered, the message in slot 0, and whether slot 0 is then empty
+-- what a packet is answered, with the message under its handle
+abbrev pub told : Received → World → Shown
+told More w = more
+told (Told h) w = shown (messageAt 1032 (h .index) w)
+told (Unreceived err) w = refused (errorNo err)
+
+-- what a packet is answered, and whether slot 0 is then empty
 abbrev pub got : List ℕ → World → List Shown
-got p w = told (receipt 1032 p w .said) (messageAt 1032 0 (step 1032 (receive p) w)) ∷ empty (isEmpty (slotAt 0 (step 1032 (receive p) w .stack))) ∷ []
+got p w = told (receipt 1032 p w .said) (step 1032 (receive p) w) ∷ empty (isEmpty (slotAt 0 (step 1032 (receive p) w .stack))) ∷ []
 
 abbrev pub moved : Updated → Shown
 moved (Next millis expired) = checked millis expired

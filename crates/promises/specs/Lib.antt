@@ -5,3 +5,4 @@ pub mod Calls
 pub mod Delivery
 pub mod History
 pub mod Figures
+pub mod Stale

@@ -3,7 +3,7 @@
 // Leans on `estack`, `receiving`, `fragment` and what they cite; no code leans on it.
 ghost use mathlib.Core.Path.{_≡_};
 
-// The demands that the theorems of this crate answer.
+// How many demands the theorems answer. A crate has code; this is all of it.
 pub fn demands() -> u8
     ensures { λ r. ⌜ r ≡ 3 ⌝ }
 {

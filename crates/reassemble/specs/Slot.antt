@@ -76,7 +76,7 @@ issueIs m (HandleOut n) = eqb n m
 abbrev pub isEmpty : Reassembler → Bool
 isEmpty s = emptyState (s .state)
 
--- done, with no handle out
+-- done, with no handle out (a slot whose handle is out is `handleTaken`)
 abbrev pub isDone : Reassembler → Bool
 isDone s = doneState (s .state)
 
@@ -97,7 +97,7 @@ collectsIn (HandleOut n) same = false
 abbrev pub collects : Key → Reassembler → Bool
 collects k s = collectsIn (s .state) (sameKey (s .key) k)
 
--- from that peer, under that tag, owned or not; the destination is not looked at
+-- from that peer, under that TO and tag; the destination is not looked at
 unfoldable pub keptUnder : Eid → Bool → TagValue → Reassembler → Bool
 keptUnder peer owner tag s = pick (sameEid (s .key .source) peer) (pick (sameBool (s .key .owner) owner) (sameTag (s .key .tag) tag) false) false
 

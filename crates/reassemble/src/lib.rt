@@ -101,7 +101,7 @@ fn is_local(own: Eid, dest: Eid) -> bool
     if dest.0 == own.0 {
         return true;
     }
-    dest.0 == 0
+    dest.0 == Eid::NULL.0
 }
 
 // A good header to own or 0.
@@ -119,7 +119,7 @@ pub fn opens(own: Eid, h: Header) -> bool
     ensures { λ r. ⌜ r ≡ opening own h ⌝ }
 {
     if is_local(own, h.key.dest) {
-        if h.key.source.0 == 255 {
+        if h.key.source.0 == Eid::ANY.0 {
             return false;
         }
         return h.som;
@@ -426,7 +426,7 @@ pub fn receive(
     accept(s, h, packet, 4, stamp, issue, most)
 }
 
-// From that peer, under that tag, owned or not.
+// From that peer, under that TO and tag.
 pub fn is_from(s: Reassembler, peer: Eid, owner: bool, tag: TagValue) -> bool
     ensures { λ r. ⌜ r ≡ keptUnder peer owner tag s ⌝ }
 {

@@ -4,7 +4,7 @@
 use Prim.Native.Nat.{ℕ, _+_, _-_, _*_}
 use mathlib.Core.Path.{_≡_}
 use mathlib.Core.Bool.{Bool, true, false}
-use mathlib.Core.List.{List, []}
+use mathlib.Core.List.{List, [], _∷_}
 use lib.Dec.{ltb, leb, eqb}
 use lib.ListN.{length, drop}
 use Rattle.octets.specs.Pick.{pick}
@@ -15,6 +15,7 @@ use Rattle.mctp.specs.declared.HeaderRead.{HeaderRead}
 use Rattle.mctp.specs.declared.HeaderRead.the-variants.{Good, Bad}
 use Rattle.mctp.specs.declared.Error.{Error}
 use Rattle.mctp.specs.declared.Error.the-variants.{InvalidInput, NoSpace, PoolShort}
+use Rattle.mctp.specs.Terms.{errorNo}
 use Rattle.mctp.specs.Header.{headerOf}
 use Rattle.flows.specs.declared.Flow.{Flow}
 use Rattle.flows.specs.Table.{standing, flowCookie, removed}
@@ -48,6 +49,12 @@ refuse err st = record { stack = st; said = Refused err; at = 0; bytes = [] }
 -- the number of the next handle that goes out: one count for the whole stack, staying at 2^64 - 1
 unfoldable pub nextIssue : ℕ → ℕ
 nextIssue n = pick (ltb n 18446744073709551615) (n + 1) n
+
+-- an answer in document 01's numbers: 0 while more is to come; 0, the slot's index and the handle's number with a message; else the refusal's number
+abbrev pub receivedAs : Received → List ℕ
+receivedAs More = 0 ∷ []
+receivedAs (Message h) = 0 ∷ h .index ∷ h .issue ∷ []
+receivedAs (Refused err) = errorNo err ∷ []
 
 abbrev pub saidOf : Outcome → ℕ → ℕ → Received
 saidOf Going i issue = More

@@ -1,4 +1,4 @@
--- The stack that a buffer holds: a head, a list of flow places, a list of slots. `Kept` is the one premise of every call: earlier calls gave these bytes.
+-- The stack that a buffer holds: a head, a list of flow places, a list of slots. `Kept` is the one premise of every call: bytes such as earlier calls give.
 -- `Becomes` says what a store makes: the stack that is then held, and what lies past the state as it was.
 -- Leans on `Layout`, `Head`, `Slot` and on `flows` for a place's codec; on `octets` for blocks of equal width.
 use Prim.Native.Nat.{ℕ, _+_, _≤_}
@@ -35,7 +35,8 @@ stackOf z b = record {
 unfoldable pub encode : Stack → List ℕ
 encode st = headBytes (st .head) ++ (bytes flowCodec (st .flows) ++ bytes (slotCodec 0) (st .slots))
 
--- earlier calls gave these bytes: each part is the bytes of a record whose fields have their ranges
+-- bytes such as earlier calls give: each part is the bytes of a record whose fields have their ranges. `new` gives it, every store keeps it (`Becomes`),
+-- and nothing more is asked, so the contracts hold of every such state
 pub record Kept (z : Sizes) (b : List ℕ) : Type 0 where
   pub sizes : SizesOk z
   pub long : size z ≤ length b

@@ -31,13 +31,13 @@ const HEAD_WIDTH: usize = 40;
 
 const FLOW_WIDTH: usize = 32;
 
-const SLOT_WIDTH: usize = 40;
+pub const SLOT_WIDTH: usize = 40;
 
 pub const FLOW_COUNT: usize = 64;
 
 const FLOWS_AT: usize = HEAD_WIDTH;
 
-const SLOTS_AT: usize = FLOWS_AT + FLOW_WIDTH * FLOW_COUNT;
+pub const SLOTS_AT: usize = FLOWS_AT + FLOW_WIDTH * FLOW_COUNT;
 
 // How many slots a stack has, and how many bytes a body may hold.
 pub struct Sizes {
@@ -49,7 +49,7 @@ impl Sizes {
     // The board's sizes.
     pub const BOARD: Sizes = Sizes {
         slots: 4,
-        body: 1032,
+        body: reassemble::MAX_PAYLOAD,
     };
 }
 

@@ -11,11 +11,11 @@ is-local-requires c κs = search needs
 
 returns : tie.Need-returns
 unfolding opening
-returns c = search (picks, sym (c .before .before .before .is-local .ensures) ∙ c .before .before .if1 .taken)
+returns c = search (picks, sym (c .before .before .before .before .is-local .ensures) ∙ c .before .before .before .if1 .taken)
 
 returns-2 : tie.Need-returns-2
 unfolding opening
-returns-2 c = search (picks, sym (c .before .before .before .is-local .ensures) ∙ c .before .before .if1 .taken)
+returns-2 c = search (picks, sym (c .before .before .before .before .is-local .ensures) ∙ c .before .before .before .if1 .taken)
 
 returns-3 : tie.Need-returns-3
 unfolding opening

@@ -21,15 +21,15 @@ returns-2 : tie.Need-returns-2
 unfolding newSays
 returns-2 c = (search picks, refl)
 
+returns-3 : tie.Need-returns-3
+unfolding newSays
+returns-3 c = (search picks, refl)
+
 mul-size : tie.Need-mul-size
 mul-size c = search needs
 
 add-size : tie.Need-add-size
 add-size c = search needs
-
-returns-3 : tie.Need-returns-3
-unfolding newSays
-returns-3 c = (search picks, refl)
 
 returns-4 : tie.Need-returns-4
 unfolding newSays
@@ -41,7 +41,7 @@ clear-requires c κs = search needs
 put-head-requires : tie.Need-put-head-requires
 put-head-requires c κs =
     let s = c .before .before .before .before .before .before .before .before .before .before .before .before .before in
-    let ok : SizesOk (s .args .sizes) = record { slots = c .before .before .before .before .before .before .before .before .before .before .if1 .left; body = c .before .before .before .before .before .before .before .before .if2 .left } in
+    let ok : SizesOk (s .args .sizes) = record { slots = c .before .before .before .before .before .before .before .before .before .if2 .left; body = c .before .before .before .before .before .before .before .if3 .left } in
     (rw (c .before .before .before .clear .ensures) (fresh.fresh-becomes (s .args .sizes) (now (s .args .state)) ok (search needs) .kept), search needs)
 
 same-length : tie.Need-same-length
@@ -53,7 +53,7 @@ returns-5 c =
     let s = c .before .before .before .before .before .before .before .before .before .before .before .before .before .before .before .before in
     let z = s .args .sizes in
     let b = now (s .args .state) in
-    let ok : SizesOk z = record { slots = c .before .before .before .before .before .before .before .before .before .before .before .before .before .if1 .left; body = c .before .before .before .before .before .before .before .before .before .before .before .if2 .left } in
+    let ok : SizesOk z = record { slots = c .before .before .before .before .before .before .before .before .before .before .before .before .if2 .left; body = c .before .before .before .before .before .before .before .before .before .before .if3 .left } in
     let h = freshHead (s .args .own) (s .args .mtu) (s .args .clock) in
     (search picks, andThen z (λ (t : Stack). rehead h t) b (lay 0 (replicate (size z) 0) b) _ (fresh.freshStack z) (fresh.fresh-becomes z b ok (search needs)) (rw (c .before .before .before .before .before .before .clear .ensures) at (c .before .before .put-head .ensures)))
 
@@ -63,9 +63,9 @@ new-spec =
     (tie.spec
     returns
     returns-2
+    returns-3
     mul-size
     add-size
-    returns-3
     returns-4
     clear-requires
     put-head-requires
