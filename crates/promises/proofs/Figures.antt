@@ -1,8 +1,10 @@
 -- The starred figures: the definitions give what document 01 says, all by computation.
 use mathlib.Core.Path.{refl}
+use mathlib.Core.List.{[], _∷_}
 use Rattle.octets.specs.Pick.{pick}
 use Rattle.octets.specs.Find.{find}
 use Rattle.octets.specs.Bytes.{part, over}
+use Rattle.mctp.specs.Terms.{sameKey, sameBool}
 use Rattle.mctp.specs.Header.{headerOf}
 use Rattle.stamp.specs.Stamp.{next, clocked, expired, timeoutOf}
 use Rattle.flows.specs.Tags.{bitsOf, freeTagOf}
@@ -17,9 +19,14 @@ use Rattle.receiving.specs.Receive.{nextIssue, land, receiveAt, receiveBy, rece
 use Rattle.estack.specs.Sends.{granted, ownedSend, tagSend, startSendOf}
 use Rattle.estack.specs.Update.{checked, updateOf}
 use Rattle.promises.specs.Calls.{step}
-use Rattle.promises.specs.Figures.{tags, table, Given}
+use Rattle.promises.specs.Figures.{tags, table, fourLost, Given}
 
 -- the definitions give every starred figure
 pub figures : Given table
 unfolding tags pick find part over headerOf next clocked expired timeoutOf bitsOf freeTagOf isFlow newFlow insertFlow withTag freshFlow setFlow fadedFlow fadedSlot slotFor isLocal opening gate gateEmpty enter append newOf stepOf written leastLeft anyExpired nextIssue land receiveAt receiveBy receiveOf granted ownedSend tagSend startSendOf checked updateOf step
 figures = (refl, (refl, (refl, (refl, (refl, (refl, (refl, (refl, (refl, (refl, (refl, tt)))))))))))
+
+-- and four lost packets are not seen
+pub loss-unseen : Given (fourLost ∷ [])
+unfolding pick find part over headerOf sameKey sameBool next slotFor isLocal opening gate gateEmpty enter append nextIssue land receiveAt receiveBy receiveOf step
+loss-unseen = (refl, tt)

@@ -170,6 +170,11 @@ joinOne = record { given = got (0x01 ∷ 0x08 ∷ 0x09 ∷ 0xC9 ∷ 0x01 ∷ 0x2
 abbrev pub table : List Row
 table = cutOnce ∷ cutTwice ∷ cutNothing ∷ mtus ∷ buffers ∷ freshTags ∷ longest ∷ tooLong ∷ expiry ∷ idle ∷ joinOne ∷ []
 
+-- no figure, but document 01's last warning: four lost in a row, mid-message, are not seen. Of a message in six packets the first comes and then the sixth,
+-- which has the number that the second had: it is taken, and what came is handed out
+abbrev pub fourLost : Row
+fourLost = record { given = got (0x01 ∷ 0x08 ∷ 0x09 ∷ 0x59 ∷ 0xFF ∷ []) (step 1032 (receive opener) (bay 255)); said = message 9 1 (0x2A ∷ 0xFF ∷ []) ∷ empty false ∷ [] }
+
 -- every row gives what is said
 abbrev pub Given : List Row → Type 0
 Given [] = Unit
