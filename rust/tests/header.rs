@@ -272,7 +272,7 @@ fn refusals() -> Vec<(String, u64)> {
 /// Every constant that the header must have, from the sources.
 fn wanted_constants() -> BTreeMap<String, u64> {
     let (state, mctp) = ("crates/state/src/lib.rt", "crates/mctp/src/lib.rt");
-    let (slots, body) = (number(state, "        slots: "), number(state, "        body: "));
+    let (slots, body) = (number(state, "        slots: "), number("crates/reassemble/src/lib.rt", "MAX_PAYLOAD: usize = "));
     let mut wanted = BTreeMap::from(
         [
             ("STATE_BYTES", number("crates/board/src/calls.rt", "a buffer of at least ")),
