@@ -1,4 +1,7 @@
+-- The cookie that is set is the contract's: any word but 0 says that there is one.
+use mathlib.Core.Path.{_≡_}
 use borrow.Author.Needs.{needs}
+use Rattle.words.specs.Words.{isYes, cookieFrom}
 use Rattle.board.proofs.calls.hyphaloom_set_cookie.Statement.{statement}
 use Rattle.board.proofs.calls.hyphaloom_set_cookie.Tie as tie
 
@@ -20,7 +23,10 @@ same-length c = search needs
 returns : tie.Need-returns
 returns c =
     let h = c .before .before .before .before .before .before .handle-of .ensures in
-    rw (← c .before .before .before .before .before .cookie-from .ensures) (rw (c .done-no .ensures, c .before .before .before .set-cookie .ensures .0, h), rw h at (c .before .before .before .set-cookie .ensures .1))
+    let a = c .before .before .before .before .before .before .before .before .args in
+    let f = c .before .before .before .before .before .cookie-from in
+    let cookie : f .result ≡ cookieFrom (isYes (a .has-cookie)) (a .cookie) = f .ensures in
+    rw (← cookie) (rw (c .done-no .ensures, c .before .before .before .set-cookie .ensures .0, h), rw h at (c .before .before .before .set-cookie .ensures .1))
 
 pub hyphaloom-set-cookie-spec : {M : Type 1} → statement M
 hyphaloom-set-cookie-spec =
