@@ -71,7 +71,7 @@ enum hyphaloom_refusal {
 
 /* What a send asks for as its tag. */
 enum hyphaloom_tag_kind {
-    HYPHALOOM_TAG_FRESH = 0,  /* a free one, owned; `tag` is not looked at but must be 0 to 255 */
+    HYPHALOOM_TAG_FRESH = 0,  /* a free one, owned; `tag` is not looked at */
     HYPHALOOM_TAG_OWNED = 1,  /* this one, owned: a request */
     HYPHALOOM_TAG_UNOWNED = 2 /* this one, the peer's: a reply */
 };
@@ -155,7 +155,7 @@ bool hyphaloom_is_local_dest(const uint8_t *state, size_t state_len, const uint8
 /*
  * Starts a send and fills `fragmenter`. A request (fresh or owned tag) puts up a flow, which lets its reply in and gives it
  * the cookie. An owned tag whose flow stands without expiry is used again; that flow keeps its first cookie.
- * INVALID_INPUT: type above 127, given tag above 7, destination or tag above 255, or no such kind of tag; nothing has changed.
+ * INVALID_INPUT: type above 127, given tag above 7, destination above 255, or no such kind of tag; nothing has changed.
  * TAG_UNAVAILABLE: no tag is free for this peer, or 64 flows stand; the tag counter of a fresh tag has moved.
  * BAD_ARGUMENT: the owned tag's flow stands with an expiry; nothing has changed. Or the smaller MTU is not 5 to 255; the flow
  * stands and the sequence has moved.

@@ -24,13 +24,23 @@ fn unlawful_rows() {
     }
 }
 
+fn sent(send: &[u64; 10]) -> (Vec<u8>, [u64; 13]) {
+    let (mut state, mut row) = (fresh(raw::STATE), [7; 13]);
+    assert_eq!(raw::start_send(&mut state, send, &mut row), 0);
+    (state, row)
+}
+
+#[test]
+fn the_tag_of_a_fresh_one_is_not_looked_at() {
+    let with_tag = |tag| sent(&[9, 1, 0, tag, 1, 1, 1, 64, 1, 5]);
+    assert_eq!(with_tag(0).1[4], 1);
+    for tag in [7, 8, 255, 256, u64::MAX] {
+        assert_eq!(with_tag(tag), with_tag(0), "tag {tag}");
+    }
+}
+
 #[test]
 fn any_number_but_0_is_yes() {
-    let sent = |send: &[u64; 10]| {
-        let (mut state, mut row) = (fresh(raw::STATE), [7; 13]);
-        assert_eq!(raw::start_send(&mut state, send, &mut row), 0);
-        (state, row)
-    };
     let mut send = SEND;
     for word in [4, 5, 6, 8] {
         send[word] = u64::MAX - 1;

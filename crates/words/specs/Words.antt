@@ -44,9 +44,11 @@ cookieFrom has value = pick has (Given (record { 0 = value })) Absent
 -- A send: destination, type, kind of tag, tag, expires, IC, has an MTU, MTU, has a cookie, cookie. The kind of tag is 0 for a fresh one, 1 for an owned
 -- and 2 for an unowned one that is given.
 
--- destination, type and tag are bytes, and the kind of tag is one of the three
+-- destination and type are bytes, the kind of tag is one of the three, and a tag that is given is a byte
 unfoldable pub lawful : List ℕ → Bool
-lawful w = pick (ltb 255 (word 0 w)) false (pick (ltb 255 (word 1 w)) false (pick (ltb 2 (word 2 w)) false (ltb (word 3 w) 256)))
+lawful w =
+    pick (ltb 255 (word 0 w)) false
+    (pick (ltb 255 (word 1 w)) false (pick (ltb 2 (word 2 w)) false (pick (eqb (word 2 w) 0) true (ltb (word 3 w) 256))))
 
 unfoldable pub sendTagFrom : ℕ → ℕ → SendTag
 sendTagFrom kind t = pick (eqb kind 0) Fresh (This (tagFrom (eqb kind 1) t))

@@ -63,7 +63,7 @@ pub fn cookie_from(has: bool, value: u64) -> Cookie
 
 // ---- a send
 
-// Every number that stands for a byte is one, and the kind of tag is there.
+// Every number that stands for a byte is one, and the kind of tag is there. The tag of a fresh one is not looked at.
 pub fn is_lawful(w: &[u64; 10]) -> bool
     ensures { λ r. ⌜ r ≡ lawful (now (w .entry)) ⌝ }
 {
@@ -75,6 +75,9 @@ pub fn is_lawful(w: &[u64; 10]) -> bool
     }
     if 2 < w[2] {
         return false;
+    }
+    if w[2] == 0 {
+        return true;
     }
     w[3] < 256
 }

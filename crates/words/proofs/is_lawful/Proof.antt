@@ -25,12 +25,19 @@ returns-3 : tie.Need-returns-3
 unfolding lawful
 returns-3 c = search picks
 
-element-copy-out-result : tie.Need-element-copy-out-result
-element-copy-out-result c = search needs
+element-copy-out-if4 : tie.Need-element-copy-out-if4
+element-copy-out-if4 c = search needs
 
 returns-4 : tie.Need-returns-4
 unfolding lawful
 returns-4 c = search picks
+
+element-copy-out-result : tie.Need-element-copy-out-result
+element-copy-out-result c = search needs
+
+returns-5 : tie.Need-returns-5
+unfolding lawful
+returns-5 c = search picks
 
 pub is-lawful-spec : {M : Type 1} → statement M
 is-lawful-spec =
@@ -42,5 +49,7 @@ is-lawful-spec =
     returns-2
     element-copy-out-if3
     returns-3
+    element-copy-out-if4
+    returns-4
     element-copy-out-result
-    returns-4)
+    returns-5)
