@@ -283,7 +283,7 @@ fn wanted_constants() -> BTreeMap<String, u64> {
             ("MIN_MTU", number(mctp, "HEADER_LEN: usize = ") + 1),
             ("MAX_MTU", number("crates/fragment/src/lib.rt", "MAX_MTU: usize = ")),
             ("TIMEOUT_MILLIS", number("crates/reassemble/src/lib.rt", "REASSEMBLY_EXPIRY_TIMEOUT: u32 = ")),
-            ("INTERVAL_MILLIS", number("crates/estack/src/updates.rt", "TIMEOUT_INTERVAL: u32 = ")),
+            ("INTERVAL_MILLIS", number("crates/updating/src/lib.rt", "TIMEOUT_INTERVAL: u32 = ")),
             ("EID_NULL", number(mctp, "NULL: Eid = Eid(")),
             ("EID_ANY", number(mctp, "ANY: Eid = Eid(")),
             ("OK", 0),

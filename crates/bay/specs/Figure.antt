@@ -5,7 +5,8 @@ use Prim.Native.Nat.{ℕ}
 use mathlib.Core.Bool.{Bool}
 use lib.Dec.{eqb}
 use Rattle.estack.specs.Basics.{newSays}
-use Rattle.board.specs.Answers.{board, doneNo}
+use Rattle.answers.specs.Answers.{doneNo}
+use Rattle.board.specs.Board.{board}
 
 -- in a buffer of that room, with that MTU
 abbrev pub made : ℕ → ℕ → Bool

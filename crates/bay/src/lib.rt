@@ -5,7 +5,7 @@ ghost use mathlib.Core.Path.{_≡_};
 ghost use Prim.Native.Nat.{_≤_};
 ghost use lib.ListN.{length};
 ghost use Rattle.state.specs.Stack.{Kept};
-ghost use Rattle.board.specs.Answers.{board};
+ghost use Rattle.board.specs.Board.{board};
 ghost use Rattle.bay.specs.Figure.{made};
 
 // ---- writing

@@ -9,10 +9,11 @@ use Rattle.mctp.specs.declared.Error.the-variants.{InvalidInput, NoSpace, BadAr
 use Rattle.mctp.specs.declared.Eid.{Eid}
 use Rattle.mctp.specs.Terms.{errorNo}
 use Rattle.state.specs.Stack.{Kept}
-use Rattle.estack.specs.declared.Done.{Done}
-use Rattle.estack.specs.declared.Done.the-variants.{Done as Well, Refused}
+use Rattle.handling.specs.declared.Done.{Done}
+use Rattle.handling.specs.declared.Done.the-variants.{Done as Well, Refused}
 use Rattle.estack.specs.Basics.{newSays, NewMakes}
-use Rattle.board.specs.Answers.{board, doneNo}
+use Rattle.answers.specs.Answers.{doneNo}
+use Rattle.board.specs.Board.{board}
 
 numbered : {A : Type 0} (err : Error) → errorNo err ≡ 0 → A
 numbered InvalidInput e = absurd (omega arith)

@@ -1,4 +1,4 @@
--- The definitions that the exported calls' contracts cite, beside those of `estack`, `receiving` and `fragment`.
--- Answers: the number answered and the row left.
+-- The definitions that the exported calls' contracts cite, beside those of `answers`, `estack`, `receiving` and `fragment`.
+-- Board: the sizes, and a send read from a row.
 -- Leans on `words` for rows.
-pub mod Answers
+pub mod Board

@@ -6,41 +6,27 @@ ghost use Rattle.fragment.specs.Step.{stepOf};
 ghost use Rattle.state.specs.Stack.{Kept, Becomes, stackOf};
 ghost use Rattle.receiving.specs.Receive.{receiveOf};
 ghost use Rattle.estack.specs.Basics.{newSays, NewMakes, setEidOf, localOf, cancelOf, freeTagsOf};
-ghost use Rattle.estack.specs.Handles.{finishOf, returnOf, cookieOf, fetchOf, bySourceOf, byCookieOf};
-ghost use Rattle.estack.specs.Update.{updateOf};
+ghost use Rattle.handling.specs.Handles.{finishOf, returnOf, cookieOf, fetchOf, bySourceOf, byCookieOf};
+ghost use Rattle.updating.specs.Update.{updateOf};
 ghost use Rattle.words.specs.Words.{isYes, tagFrom, cookieFrom, fragmenterOf};
-ghost use Rattle.board.specs.Answers.{board, doneNo, updatedNo, nextAfter, receivedNo, handleAfter, deferredWords, fetchedNo, messageAfter, startedNo, fragmenterAfter, stepNo, lengthAfter, steppedAfter, startOf};
-use estack::Deferred;
-use estack::Done;
-use estack::Fetched;
+ghost use Rattle.answers.specs.Answers.{doneNo, updatedNo, nextAfter, receivedNo, handleAfter, deferredWords, fetchedNo, messageAfter, startedNo, fragmenterAfter, stepNo, lengthAfter, steppedAfter};
+ghost use Rattle.board.specs.Board.{board, startOf};
+use answers::deferred_words;
+use answers::done_no;
+use answers::put_message;
+use answers::put_next;
+use answers::put_received;
+use answers::put_started;
+use answers::put_step;
 use estack::ReceiveHandle;
-use estack::Received;
-use estack::Updated;
-use fragment::Fragmenter;
-use fragment::SendOutput;
-use fragment::Started;
 use mctp::Eid;
 use mctp::TagValue;
 use state::Sizes;
-use words::advance;
 use words::cookie_from;
-use words::flag_word;
 use words::fragmenter_of;
-use words::handle_words;
 use words::is_lawful;
-use words::message_words;
 use words::send_of;
 use words::tag_from;
-use words::words_of;
-
-fn done_no(d: Done) -> u8
-    ensures { λ r. ⌜ r ≡ doneNo d ⌝ }
-{
-    match d {
-        Done::Done => 0,
-        Done::Refused(err) => err.number(),
-    }
-}
 
 // A new stack in the front of a buffer of at least 2,248 bytes; what lies past it stays.
 #[no_mangle]
@@ -96,19 +82,6 @@ pub extern "C" fn hyphaloom_start_send(
     1
 }
 
-fn put_started(fragmenter: &mut [u64; 13], started: Started) -> u8
-    ensures { λ r. ⌜ r ≡ startedNo started ⌝ }
-    ensures { λ _. ⌜ now (fragmenter .exit) ≡ fragmenterAfter started (now (fragmenter .entry)) ⌝ }
-{
-    match started {
-        Started::Sends(f) => {
-            *fragmenter = words_of(f);
-            0
-        }
-        Started::Refused(err) => err.number(),
-    }
-}
-
 // One step: a packet of `len` bytes at the front of the buffer, or with `len` 0 all is sent.
 #[no_mangle]
 pub extern "C" fn hyphaloom_fragment(
@@ -131,25 +104,6 @@ pub extern "C" fn hyphaloom_fragment(
     said
 }
 
-fn put_step(fragmenter: &mut [u64; 13], len: &mut u64, next: Fragmenter, output: SendOutput) -> u8
-    ensures { λ r. ⌜ r ≡ stepNo output ⌝ }
-    ensures { λ _. ⌜ now (len .exit) ≡ lengthAfter output (now (len .entry)) ⌝ }
-    ensures { λ _. ⌜ now (fragmenter .exit) ≡ steppedAfter next output (now (fragmenter .entry)) ⌝ }
-{
-    match output {
-        SendOutput::Packet(n) => {
-            advance(fragmenter, next);
-            *len = n as u64;
-            0
-        }
-        SendOutput::Complete { tag: _, cookie: _ } => {
-            *len = 0;
-            0
-        }
-        SendOutput::Error { err, cookie: _ } => err.number(),
-    }
-}
-
 // Takes the clock: how many milliseconds may pass until the next update, and whether something expired.
 #[no_mangle]
 pub extern "C" fn hyphaloom_update(state: &mut [u8], clock: u64, next: &mut [u64; 2]) -> u8
@@ -158,13 +112,8 @@ pub extern "C" fn hyphaloom_update(state: &mut [u8], clock: u64, next: &mut [u64
     ensures stack { λ _. ⌜ Becomes board (now (state .entry)) (now (state .exit)) (updateOf clock (stackOf board (now (state .entry))) .stack) ⌝ }
     ensures next { λ _. ⌜ now (next .exit) ≡ nextAfter (updateOf clock (stackOf board (now (state .entry))) .said) (now (next .entry)) ⌝ }
 {
-    match estack::update(state, Sizes::BOARD, clock) {
-        Updated::Next { millis, expired } => {
-            *next = [millis, flag_word(expired)];
-            0
-        }
-        Updated::Refused(err) => err.number(),
-    }
+    let updated = estack::update(state, Sizes::BOARD, clock);
+    put_next(next, updated)
 }
 
 // Receives a packet: the handle of the message that it ends, or issue 0 where more is to come.
@@ -183,32 +132,6 @@ pub extern "C" fn hyphaloom_receive(
 {
     let received = estack::receive(state, Sizes::BOARD, pool, packet);
     put_received(handle, received)
-}
-
-fn put_received(handle: &mut [u64; 2], received: Received) -> u8
-    ensures { λ r. ⌜ r ≡ receivedNo received ⌝ }
-    ensures { λ _. ⌜ now (handle .exit) ≡ handleAfter received (now (handle .entry)) ⌝ }
-{
-    match received {
-        Received::More => {
-            *handle = [0, 0];
-            0
-        }
-        Received::Message(h) => {
-            *handle = handle_words(h);
-            0
-        }
-        Received::Refused(err) => err.number(),
-    }
-}
-
-fn deferred_words(d: Deferred) -> [u64; 2]
-    ensures { λ r. ⌜ r ≡ deferredWords d ⌝ }
-{
-    match d {
-        Deferred::Found(h) => handle_words(h),
-        Deferred::Nothing => [0, 0],
-    }
 }
 
 // The earliest message kept from that source under that tag: its handle, or issue 0 where there is none.
@@ -267,13 +190,8 @@ pub extern "C" fn hyphaloom_fetch_message(
     ensures message { λ _. ⌜ now (message .exit) ≡ messageAfter (fetchOf 1032 (record { index = index; issue = issue }) (stackOf board (now (state .entry))) (length (now (pool .entry)))) (now (message .entry)) ⌝ }
 {
     let handle = handle_of(index, issue);
-    match estack::fetch_message(state, Sizes::BOARD, pool, handle) {
-        Fetched::Message(m) => {
-            *message = message_words(m);
-            0
-        }
-        Fetched::Refused(err) => err.number(),
-    }
+    let fetched = estack::fetch_message(state, Sizes::BOARD, pool, handle);
+    put_message(message, fetched)
 }
 
 #[no_mangle]

@@ -4,7 +4,7 @@
 ghost use mathlib.Core.Path.{_≡_};
 ghost use mathlib.Core.Bool.{true};
 ghost use Rattle.state.specs.Stack.{Kept};
-ghost use Rattle.board.specs.Answers.{board};
+ghost use Rattle.board.specs.Board.{board};
 
 // Half a record: what is asked, a call's number with its numbers and bytes; or in the same form what is answered. The numbers and bytes lie beside it.
 pub struct Half {

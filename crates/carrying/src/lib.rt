@@ -4,7 +4,7 @@
 ghost use Prim.Native.Nat.{_≤_};
 ghost use lib.ListN.{length};
 ghost use Rattle.state.specs.Stack.{Kept};
-ghost use Rattle.board.specs.Answers.{board};
+ghost use Rattle.board.specs.Board.{board};
 use calling::Half;
 use calling::NONE;
 use calling::answer;

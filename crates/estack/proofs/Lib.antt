@@ -1,7 +1,2 @@
--- The laws that the calls' proofs share, and what is shown of the definitions.
-pub mod Steps
-pub mod HandleLaws
-pub mod SendLaws
-pub mod Times
-pub mod UpdateLaws
+-- What is shown of the definitions.
 pub mod Pinned

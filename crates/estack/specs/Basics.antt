@@ -1,6 +1,6 @@
 -- Document 01, "Stack": `new`, `set_eid`, `eid`, `is_local_dest`, `cancel_flow`, free tags.
 -- Each gives the answer and the next stack for every input; `NewMakes` gives the bytes of a new one.
--- Leans on `mctp` for EIDs, on `tables` for a cancel's walk.
+-- Leans on `mctp` for EIDs, on `slot_walks` for a cancel's walk.
 use Prim.Native.Nat.{ℕ}
 use mathlib.Core.Path.{_≡_}
 use mathlib.Core.Bool.{Bool, true, false}
@@ -24,10 +24,11 @@ use Rattle.state.specs.declared.Head.{Head}
 use Rattle.state.specs.Layout.{flowCount, size}
 use Rattle.state.specs.Head.{reowned}
 use Rattle.state.specs.Stack.{Stack, Becomes, rehead}
-use Rattle.tables.specs.Walks.{reslots, reflows, swept, blocked}
-use Rattle.estack.specs.declared.Done.{Done}
-use Rattle.estack.specs.declared.Done.the-variants.{Done as Well, Refused}
-use Rattle.estack.specs.Handles.{Outcome}
+use Rattle.tables.specs.Walks.{reslots, reflows}
+use Rattle.slot_walks.specs.SlotWalks.{swept, blocked}
+use Rattle.handling.specs.declared.Done.{Done}
+use Rattle.handling.specs.declared.Done.the-variants.{Done as Well, Refused}
+use Rattle.handling.specs.Handles.{Outcome}
 
 -- a stack that has done nothing: no slot taken, no flow, tag and sequence counters 0, the planned check at 0, no handle out yet
 abbrev pub freshHead : Eid → ℕ → ℕ → Head

@@ -1,7 +1,4 @@
--- The definitions that the contracts of `estack` cite: document 01, "Stack", sentence by sentence (docs/ARCHITECTURE.md).
--- Basics, Sends, Update, Handles: a file for each group of calls.
--- Leans on `state` for the stack, on `tables`, `flows`, `reassemble`, `fragment` and `stamp` for its parts.
-pub mod Handles
-pub mod Sends
-pub mod Update
+-- The definitions that the contracts of `estack` cite (docs/ARCHITECTURE.md has document 01, "Stack", sentence by sentence).
+-- Basics: `new`, EIDs, `cancel_flow`, free tags.
+-- Leans on `state` for the stack, on `slot_walks` for a cancel's walk, on `handling` for what a call says.
 pub mod Basics

@@ -1,86 +1,134 @@
 // The stack: every public call of document 01, over a state kept in lent bytes, after the Rust's `Stack` in src/lib.rs.
-// basics.rt has `new`, EIDs, cancel and free tags; sends.rt `start_send`; updates.rt the clock; handles.rt what is done under a handle. Definitions: specs/.
-// Leans on `state` for the layout, on `tables` for walks, on `receiving` for receive, on `fragment` for cutting.
-mod basics;
-mod handles;
-mod sends;
-mod updates;
-
-pub use basics::cancel_flow;
-pub use basics::eid;
-pub use basics::free_tags;
-pub use basics::is_local_dest;
-pub use basics::new;
-pub use basics::set_eid;
-pub use handles::fetch_message;
-pub use handles::finished_receive;
-pub use handles::get_deferred;
-pub use handles::get_deferred_bycookie;
-pub use handles::return_handle;
-pub use handles::set_cookie;
-use mctp::Cookie;
+// Here are `new`, EIDs, cancel and free tags; the other calls are handed on. Definitions: specs/Basics.antt.
+// Leans on `state` for the layout, on `slot_walks` and `flow_walks` for walks, on `sending`, `receiving`, `updating` and `handling` for their calls.
+ghost use mathlib.Core.Path.{_≡_};
+ghost use Prim.Native.Nat.{_+_, _≤_, _<_};
+ghost use lib.ListN.{length};
+ghost use Rattle.state.specs.Head.{reowned};
+ghost use Rattle.state.specs.Stack.{Kept, Becomes, stackOf, rehead};
+ghost use Rattle.estack.specs.Basics.{freshStack, newSays, NewMakes, setEidOf, localOf, cancelOf, freeTagsOf};
+pub use handling::Deferred;
+pub use handling::Done;
+pub use handling::Fetched;
+pub use handling::Message;
+pub use handling::fetch_message;
+pub use handling::finished_receive;
+pub use handling::get_deferred;
+pub use handling::get_deferred_bycookie;
+pub use handling::return_handle;
+pub use handling::set_cookie;
 use mctp::Eid;
+use mctp::EidRead;
 use mctp::Error;
-use mctp::Key;
-use mctp::MsgIC;
-use mctp::MsgType;
-use mctp::Tag;
+use mctp::TagValue;
 pub use receiving::ReceiveHandle;
 pub use receiving::Received;
 pub use receiving::receive;
-pub use sends::start_send;
-pub use updates::update;
+pub use sending::Send;
+pub use sending::SendMtu;
+pub use sending::SendTag;
+pub use sending::start_send;
+use stamp::EventStamp;
+use state::Head;
+use state::Sizes;
+pub use updating::Updated;
+pub use updating::update;
 
-// A call that has nothing to tell but a refusal.
-pub enum Done {
-    Done,
-    Refused(Error),
+// A new stack in the front of a buffer; what lies past it stays.
+pub fn new(state: &mut [u8], sizes: Sizes, own: Eid, mtu: usize, clock: u64) -> Done
+    ensures said { λ r. ⌜ r ≡ newSays sizes (length (now (state .entry))) mtu ⌝ }
+    ensures stack { λ r. ⌜ NewMakes r sizes own mtu clock (now (state .entry)) (now (state .exit)) ⌝ }
+{
+    if mtu < 5 {
+        return Done::Refused(Error::BadArgument);
+    }
+    if 255 < sizes.slots {
+        return Done::Refused(Error::BadArgument);
+    }
+    if 65535 < sizes.body {
+        return Done::Refused(Error::BadArgument);
+    }
+    let size = state::SLOTS_AT + state::SLOT_WIDTH * sizes.slots;
+    if state.len() < size {
+        return Done::Refused(Error::NoSpace);
+    }
+    state::clear(state, size);
+    let stamp = EventStamp {
+        clock: clock,
+        counter: 0,
+    };
+    let h = Head {
+        own_eid: own,
+        mtu: mtu,
+        now: stamp,
+        next_timeout: 0,
+        next_tag: 0,
+        next_seq: 0,
+        issue: 0,
+    };
+    state::put_head(state, sizes, h);
+    Done::Done
 }
 
-// How many milliseconds may pass until the next update, and whether something expired.
-pub enum Updated {
-    Next { millis: u64, expired: bool },
-    Refused(Error),
+// The own EID becomes another: 8 to 254.
+pub fn set_eid(state: &mut [u8], sizes: Sizes, eid: u8) -> Done
+    requires { ⌜ Kept sizes (now state) ⌝ }
+    ensures { λ r. ⌜ (r ≡ setEidOf eid (stackOf sizes (now (state .entry))) .said) × Becomes sizes (now (state .entry)) (now (state .exit)) (setEidOf eid (stackOf sizes (now (state .entry))) .stack) ⌝ }
+{
+    match Eid::new_normal(eid) {
+        EidRead::Normal(own) => {
+            put_own(state, sizes, own);
+            Done::Done
+        }
+        EidRead::Refused(err) => Done::Refused(err),
+    }
 }
 
-pub enum Deferred {
-    Found(ReceiveHandle),
-    Nothing,
+fn put_own(state: &mut [u8], sizes: Sizes, own: Eid)
+    requires { ⌜ Kept sizes (now state) ⌝ }
+    ensures { λ _. ⌜ Becomes sizes (now (state .entry)) (now (state .exit)) (rehead (reowned own (stackOf sizes (now (state .entry)) .head)) (stackOf sizes (now (state .entry)))) ⌝ }
+{
+    let h = state::head_at(state, sizes);
+    state::put_head(state, sizes, h.with_own(own));
 }
 
-// A message: its body is `len` bytes of the pool from byte `at`.
-pub struct Message {
-    pub key: Key,
-    pub typ: MsgType,
-    pub ic: MsgIC,
-    pub cookie: Cookie,
-    pub at: usize,
-    pub len: usize,
+// The own EID.
+pub fn eid(state: &[u8], sizes: Sizes) -> Eid
+    requires { ⌜ Kept sizes (now state) ⌝ }
+    ensures { λ r. ⌜ r ≡ stackOf sizes (now (state .entry)) .head .«own_eid» ⌝ }
+{
+    state::own_eid(state, sizes)
 }
 
-pub enum Fetched {
-    Message(Message),
-    Refused(Error),
+// A good header to own or 0.
+pub fn is_local_dest(state: &[u8], sizes: Sizes, packet: &[u8]) -> bool
+    requires { ⌜ Kept sizes (now state) ⌝ }
+    ensures { λ r. ⌜ r ≡ localOf (now (packet .entry)) (stackOf sizes (now (state .entry))) ⌝ }
+{
+    reassemble::is_local_dest(state::own_eid(state, sizes), packet)
 }
 
-// The tag that a message carries: a fresh one of our own, or this one.
-pub enum SendTag {
-    Fresh,
-    Given(Tag),
+// Frees the replies of a peer and tag, and ends their flow.
+pub fn cancel_flow(state: &mut [u8], sizes: Sizes, source: Eid, tag: TagValue) -> Done
+    requires { ⌜ Kept sizes (now state) ⌝ }
+    ensures { λ r. ⌜ (r ≡ cancelOf source tag (stackOf sizes (now (state .entry))) .said) × Becomes sizes (now (state .entry)) (now (state .exit)) (cancelOf source tag (stackOf sizes (now (state .entry))) .stack) ⌝ }
+{
+    if 7 < tag.0 {
+        return Done::Refused(Error::InvalidInput);
+    }
+    let stopped = slot_walks::sweep(state, sizes, source, tag);
+    if stopped {
+        return Done::Refused(Error::BadArgument);
+    }
+    flow_walks::remove_flow(state, sizes, source, tag);
+    Done::Done
 }
 
-// The most that a packet of this message may be: as the stack has it, or also at most this.
-pub enum SendMtu {
-    Own,
-    AtMost(usize),
-}
-
-pub struct Send {
-    pub dest: Eid,
-    pub typ: MsgType,
-    pub tag: SendTag,
-    pub expires: bool,
-    pub ic: MsgIC,
-    pub mtu: SendMtu,
-    pub cookie: Cookie,
+// Free tags left for a peer.
+pub fn free_tags(state: &[u8], sizes: Sizes, peer: Eid) -> u8
+    requires { ⌜ Kept sizes (now state) ⌝ }
+    ensures { λ r. ⌜ r ≡ freeTagsOf peer (stackOf sizes (now (state .entry))) ⌝ }
+{
+    let used = flow_walks::used_tags(state, sizes, peer);
+    flows::tags::free_tags(used)
 }

@@ -33,7 +33,7 @@ use Rattle.receiving.specs.declared.ReceiveHandle.{ReceiveHandle}
 use Rattle.receiving.specs.declared.Received.the-variants.{More}
 use Rattle.receiving.specs.Receive.{Receipt, receivedAs, nextIssue, saidOf, settled, land, opening, gateOf, receiveAt, receiveBy, receiveOf}
 use Rattle.promises.specs.Calls.{World, receive, step, receipt}
-use Rattle.estack.specs.Handles.{messageIn}
+use Rattle.handling.specs.Handles.{messageIn}
 use Rattle.promises.specs.Delivery.{Hands}
 use Rattle.promises.proofs.Pool.{slot-le, bodyAt, pool-length, body-append}
 use Rattle.promises.proofs.Clock.{next-clock, opening-clock}

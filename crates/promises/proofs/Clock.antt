@@ -28,12 +28,12 @@ use Rattle.reassemble.specs.declared.Gate.the-variants.{Shut, Pass}
 use Rattle.reassemble.specs.Slot.{isEmpty}
 use Rattle.reassemble.specs.Search.{slotFor}
 use Rattle.state.specs.Stack.{Stack, slotAt}
-use Rattle.tables.specs.Walks.{tableOf, retable}
-use Rattle.estack.specs.declared.Send.{Send}
-use Rattle.estack.specs.declared.SendTag.{SendTag}
-use Rattle.estack.specs.declared.SendTag.the-variants.{Fresh, Given}
+use Rattle.flow_walks.specs.FlowWalks.{tableOf, retable}
+use Rattle.sending.specs.declared.Send.{Send}
+use Rattle.sending.specs.declared.SendTag.{SendTag}
+use Rattle.sending.specs.declared.SendTag.the-variants.{Fresh, Given}
 use Rattle.receiving.specs.Receive.{Receipt, land, opening, gateOf, receiveAt, receiveBy, receiveOf}
-use Rattle.estack.specs.Sends.{Sent, granted, ownedSend, givenSend, tagSend, startSendOf}
+use Rattle.sending.specs.Sends.{Sent, granted, ownedSend, givenSend, tagSend, startSendOf}
 
 pub next-clock : (s : EventStamp) → next s .clock ≡ s .clock
 unfolding next

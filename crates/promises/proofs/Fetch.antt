@@ -24,8 +24,8 @@ use Rattle.receiving.specs.declared.ReceiveHandle.{ReceiveHandle}
 use Rattle.receiving.specs.declared.Received.{Received}
 use Rattle.receiving.specs.declared.Received.the-variants.{More, Message as Told, Refused}
 use Rattle.receiving.specs.Receive.{Receipt, receivedAs, saidOf, receiveOf}
-use Rattle.estack.specs.declared.Fetched.the-variants.{Message as Fetch}
-use Rattle.estack.specs.Handles.{isGood, messageIn, fetchOf}
+use Rattle.handling.specs.declared.Fetched.the-variants.{Message as Fetch}
+use Rattle.handling.specs.Handles.{isGood, messageIn, fetchOf}
 use Rattle.promises.specs.Calls.{World, receive, step, receipt}
 use Rattle.promises.specs.History.{takes}
 use Rattle.promises.proofs.Facts.{no-both, no-true}

@@ -16,8 +16,8 @@ use Rattle.fragment.specs.Step.{newOf, stepOf}
 use Rattle.fragment.specs.Run.{written}
 use Rattle.tables.specs.Walks.{leastLeft, anyExpired}
 use Rattle.receiving.specs.Receive.{nextIssue, land, receiveAt, receiveBy, receiveOf}
-use Rattle.estack.specs.Sends.{granted, ownedSend, tagSend, startSendOf}
-use Rattle.estack.specs.Update.{checked, updateOf}
+use Rattle.sending.specs.Sends.{granted, ownedSend, tagSend, startSendOf}
+use Rattle.updating.specs.Update.{checked, updateOf}
 use Rattle.promises.specs.Calls.{step}
 use Rattle.promises.specs.Figures.{tags, table, fourLost, Given}
 

@@ -23,12 +23,12 @@ use Rattle.reassemble.specs.Search.{slotFor}
 use Rattle.reassemble.specs.Enter.{isLocal, opening, gate, gateEmpty, gateReply, enter, append}
 use Rattle.tables.specs.Walks.{leastLeft}
 use Rattle.fragment.specs.Cutting.{InTurn, joined, kindIn, Carries}
-use Rattle.estack.specs.declared.Send.{Send}
-use Rattle.estack.specs.declared.SendTag.the-variants.{Fresh}
-use Rattle.estack.specs.declared.SendMtu.the-variants.{Own}
+use Rattle.sending.specs.declared.Send.{Send}
+use Rattle.sending.specs.declared.SendTag.the-variants.{Fresh}
+use Rattle.sending.specs.declared.SendMtu.the-variants.{Own}
 use Rattle.receiving.specs.Receive.{receivedAs, nextIssue, land, receiveAt, receiveBy, receiveOf}
-use Rattle.estack.specs.Sends.{granted, ownedSend, tagSend, startSendOf}
-use Rattle.estack.specs.Update.{checked, updateOf}
+use Rattle.sending.specs.Sends.{granted, ownedSend, tagSend, startSendOf}
+use Rattle.updating.specs.Update.{checked, updateOf}
 use Rattle.estack.specs.Basics.{freshStack}
 use Rattle.promises.specs.Calls.{World, Call, receive, elsewhere, update, startSend, cancelFlow, finishedReceive, setEid, step, steps, receipt}
 use Rattle.promises.specs.Delivery.{messageAt, Delivers, cookieFor, Lawful}

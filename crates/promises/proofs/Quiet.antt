@@ -21,7 +21,7 @@ use Rattle.reassemble.specs.declared.State.the-variants.{Done}
 use Rattle.reassemble.specs.declared.Reassembler.{Reassembler}
 use Rattle.reassemble.specs.Slot.{blankSlot, collects, outState, doneState, handleTaken, isDone, isReply, keptUnder, listed, timeIn, slotTime, slotTimeout, restated, recookied}
 use Rattle.state.specs.Stack.{Stack}
-use Rattle.estack.specs.Sends.{startSendOf}
+use Rattle.sending.specs.Sends.{startSendOf}
 use Rattle.estack.specs.Basics.{eidSet}
 use Rattle.promises.specs.Calls.{Call, receive, elsewhere, update, startSend, cancelFlow, getDeferred, getDeferredByCookie, fetchMessage, finishedReceive, returnHandle, setCookie, setEid, eid, isLocalDest, freeTags, World, step, permitted, replyOf}
 use Rattle.promises.specs.History.{Taken, logged}

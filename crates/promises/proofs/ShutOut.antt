@@ -32,10 +32,10 @@ use Rattle.fragment.specs.Step.{Step, packetOf, emitted, stepOf}
 use Rattle.state.specs.Stack.{Stack, slotAt, flowAt}
 use Rattle.receiving.specs.declared.ReceiveHandle.{ReceiveHandle}
 use Rattle.receiving.specs.declared.Received.the-variants.{Message as Told}
-use Rattle.estack.specs.declared.Updated.the-variants.{Next, Refused}
+use Rattle.updating.specs.declared.Updated.the-variants.{Next, Refused}
 use Rattle.receiving.specs.Receive.{Receipt, saidOf, receiveOf}
 use Rattle.tables.specs.Walks.{leastLeft, slotTimes}
-use Rattle.estack.specs.Update.{Update, interval, leastOf, checked, updateOf}
+use Rattle.updating.specs.Update.{Update, interval, leastOf, checked, updateOf}
 use Rattle.estack.specs.Basics.{freeTagsOf}
 use Rattle.promises.specs.Calls.{World, Call, receive, step, receipt}
 use Rattle.promises.specs.Delivery.{Message, Delivers, Lawful}

@@ -46,18 +46,20 @@ use Rattle.reassemble.specs.Enter.{enter, appended, outcomeOf}
 use Rattle.fragment.specs.Cutting.{bodyIn}
 use Rattle.stamp.specs.Stamp.{next, clocked}
 use Rattle.state.specs.Stack.{Stack, slotAt, reslot}
-use Rattle.tables.specs.Walks.{swept, ticked, renow, tableOf, retable}
+use Rattle.slot_walks.specs.SlotWalks.{swept}
+use Rattle.tables.specs.Walks.{ticked, renow}
+use Rattle.flow_walks.specs.FlowWalks.{tableOf, retable}
 use Rattle.receiving.specs.declared.ReceiveHandle.{ReceiveHandle}
 use Rattle.receiving.specs.declared.Received.the-variants.{Message as Told}
 use Rattle.receiving.specs.Receive.{Receipt, refuse, nextIssue, saidOf, issueAfter, settled, land, gateOf, receiveAt, receiveBy, receiveOf}
-use Rattle.estack.specs.declared.Send.{Send}
-use Rattle.estack.specs.declared.SendTag.{SendTag}
-use Rattle.estack.specs.declared.SendTag.the-variants.{Fresh, Given}
-use Rattle.estack.specs.declared.Deferred.the-variants.{Found}
-use Rattle.estack.specs.Handles as handles
-use Rattle.estack.specs.Handles.{Lookup, isGood, handled, finishOf, returnOf, takeOf, bySourceOf}
-use Rattle.estack.specs.Sends.{Sent, granted, ownedSend, givenSend, tagSend, startSendOf}
-use Rattle.estack.specs.Update.{Update, checked, updateOf}
+use Rattle.sending.specs.declared.Send.{Send}
+use Rattle.sending.specs.declared.SendTag.{SendTag}
+use Rattle.sending.specs.declared.SendTag.the-variants.{Fresh, Given}
+use Rattle.handling.specs.declared.Deferred.the-variants.{Found}
+use Rattle.handling.specs.Handles as handles
+use Rattle.handling.specs.Handles.{Lookup, isGood, handled, finishOf, returnOf, takeOf, bySourceOf}
+use Rattle.sending.specs.Sends.{Sent, granted, ownedSend, givenSend, tagSend, startSendOf}
+use Rattle.updating.specs.Update.{Update, checked, updateOf}
 use Rattle.estack.specs.Basics.{eidSet, cancelOf}
 use Rattle.promises.specs.Calls.{Call, receive, elsewhere, update, startSend, cancelFlow, getDeferred, getDeferredByCookie, fetchMessage, finishedReceive, returnHandle, setCookie, setEid, eid, isLocalDest, freeTags, World, step, steps, receipt}
 use Rattle.promises.specs.Stale.{counting}

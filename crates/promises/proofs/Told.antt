@@ -19,7 +19,7 @@ use Rattle.receiving.specs.declared.ReceiveHandle.{ReceiveHandle}
 use Rattle.receiving.specs.declared.Received.{Received}
 use Rattle.receiving.specs.declared.Received.the-variants.{Message as Handed}
 use Rattle.receiving.specs.Receive.{Receipt, receivedAs, saidOf, receiveOf}
-use Rattle.estack.specs.Handles.{messageIn}
+use Rattle.handling.specs.Handles.{messageIn}
 use Rattle.promises.specs.Calls.{Call, receive, elsewhere, update, startSend, cancelFlow, getDeferred, getDeferredByCookie, fetchMessage, finishedReceive, returnHandle, setCookie, setEid, eid, isLocalDest, freeTags, World, step, steps, receipt, hasKey}
 use Rattle.promises.specs.Delivery.{readFrom, messageAt, allOf}
 use Rattle.promises.specs.History.{Taken, takes, note, noted, logged, history, lentHere, since, gathered, Exactly}

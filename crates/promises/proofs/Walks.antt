@@ -23,11 +23,12 @@ use Rattle.reassemble.specs.declared.Reassembler.{Reassembler}
 use Rattle.reassemble.specs.Slot.{blankSlot, collectingState, outState, issueIs, handleTaken, isDone, isReply, keptUnder, slotTimeout, fadedSlot, restated}
 use Rattle.reassemble.specs.Search.{earliest}
 use Rattle.state.specs.Stack.{Stack, slotAt}
-use Rattle.tables.specs.Walks.{swept, renow}
+use Rattle.slot_walks.specs.SlotWalks.{swept}
+use Rattle.tables.specs.Walks.{renow}
 use Rattle.receiving.specs.declared.ReceiveHandle.{ReceiveHandle}
 use Rattle.receiving.specs.Receive.{nextIssue}
-use Rattle.estack.specs.Handles.{Outcome, Lookup, isGood, handled, takeOf, deferredOf, bySourceOf}
-use Rattle.estack.specs.Update.{Update, checked, updateOf}
+use Rattle.handling.specs.Handles.{Outcome, Lookup, isGood, handled, takeOf, deferredOf, bySourceOf}
+use Rattle.updating.specs.Update.{Update, checked, updateOf}
 use Rattle.estack.specs.Basics.{cancelOf}
 use Rattle.promises.proofs.Facts.{no-true}
 use Rattle.promises.proofs.Slots.{getD-mapped}

@@ -18,11 +18,11 @@ use Rattle.mctp.specs.Terms.{sameKey, sameEid, sameTag}
 use Rattle.mctp.specs.Header.{headerOf}
 use Rattle.state.specs.Stack.{Stack}
 use Rattle.receiving.specs.declared.ReceiveHandle.{ReceiveHandle}
-use Rattle.estack.specs.declared.Send.{Send}
+use Rattle.sending.specs.declared.Send.{Send}
 use Rattle.receiving.specs.Receive.{Receipt, receiveOf}
-use Rattle.estack.specs.Handles.{finishOf, returnOf, cookieOf, bySourceOf, byCookieOf}
-use Rattle.estack.specs.Sends.{startSendOf}
-use Rattle.estack.specs.Update.{updateOf}
+use Rattle.handling.specs.Handles.{finishOf, returnOf, cookieOf, bySourceOf, byCookieOf}
+use Rattle.sending.specs.Sends.{startSendOf}
+use Rattle.updating.specs.Update.{updateOf}
 use Rattle.estack.specs.Basics.{setEidOf, cancelOf}
 
 pub data Call : Type 0 where

@@ -24,9 +24,9 @@ use Rattle.state.specs.Stack.{Stack, slotAt}
 use Rattle.fragment.specs.Cutting.{Carries}
 use Rattle.receiving.specs.declared.ReceiveHandle.{ReceiveHandle}
 use Rattle.receiving.specs.Receive.{receivedAs}
-use Rattle.estack.specs.declared.Message.{Message as Facts}
-use Rattle.estack.specs.declared.Fetched.the-variants.{Message as Fetch}
-use Rattle.estack.specs.Handles.{messageIn, fetchOf}
+use Rattle.handling.specs.declared.Message.{Message as Facts}
+use Rattle.handling.specs.declared.Fetched.the-variants.{Message as Fetch}
+use Rattle.handling.specs.Handles.{messageIn, fetchOf}
 use Rattle.promises.specs.Calls.{World, Call, receive, step, steps, receipt, permitted}
 
 -- what is handed out: key, type, IC, body and cookie

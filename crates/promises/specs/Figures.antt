@@ -21,14 +21,14 @@ use Rattle.fragment.specs.Run.{written}
 use Rattle.state.specs.Stack.{Stack, slotAt}
 use Rattle.receiving.specs.declared.Received.{Received}
 use Rattle.receiving.specs.declared.Received.the-variants.{More, Message as Told, Refused as Unreceived}
-use Rattle.estack.specs.declared.Updated.{Updated}
-use Rattle.estack.specs.declared.Updated.the-variants.{Next, Refused as Unmoved}
-use Rattle.estack.specs.declared.Send.{Send}
-use Rattle.estack.specs.declared.SendTag.the-variants.{Fresh}
-use Rattle.estack.specs.declared.SendMtu.{SendMtu}
-use Rattle.estack.specs.declared.SendMtu.the-variants.{Own, AtMost}
-use Rattle.estack.specs.Sends.{startSendOf}
-use Rattle.estack.specs.Update.{updateOf}
+use Rattle.updating.specs.declared.Updated.{Updated}
+use Rattle.updating.specs.declared.Updated.the-variants.{Next, Refused as Unmoved}
+use Rattle.sending.specs.declared.Send.{Send}
+use Rattle.sending.specs.declared.SendTag.the-variants.{Fresh}
+use Rattle.sending.specs.declared.SendMtu.{SendMtu}
+use Rattle.sending.specs.declared.SendMtu.the-variants.{Own, AtMost}
+use Rattle.sending.specs.Sends.{startSendOf}
+use Rattle.updating.specs.Update.{updateOf}
 use Rattle.estack.specs.Basics.{freshStack}
 use Rattle.promises.specs.Calls.{World, Call, receive, update, startSend, step, receipt}
 use Rattle.promises.specs.Delivery.{Message, messageAt}

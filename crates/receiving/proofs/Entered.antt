@@ -35,7 +35,7 @@ use Rattle.state.specs.Slot.{SlotOk, issueNo}
 use Rattle.state.specs.Stack.{Stack, Kept, Becomes, stackOf}
 use Rattle.state.proofs.StackLaws.{flow-ok, head-ok}
 use Rattle.tables.specs.Walks.{ticked}
-use Rattle.tables.proofs.SlotChecks.{blank-ok}
+use Rattle.slot_walks.proofs.SlotChecks.{blank-ok}
 use Rattle.receiving.specs.Receive.{nextIssue}
 
 -- bytes that fit slot i's body fit the pool

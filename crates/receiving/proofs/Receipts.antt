@@ -41,7 +41,7 @@ use Rattle.state.specs.Head.{reissued}
 use Rattle.state.specs.Stack.{Stack, Becomes, stackOf, slotAt, rehead}
 use Rattle.state.proofs.StackLaws.{andThen}
 use Rattle.tables.specs.Walks.{ticked, reflows}
-use Rattle.tables.proofs.FlowLaws.{becomes-as}
+use Rattle.state.proofs.Steps.{becomes-as}
 use Rattle.receiving.specs.declared.Received.{Received}
 use Rattle.receiving.specs.declared.Received.the-variants.{Refused}
 use Rattle.receiving.specs.Receive.{Receipt, Makes, refuse, nextIssue, saidOf, flowsAfter, concluded, settled, land, receiveAt, receiveBy, receiveOf}

@@ -1,6 +1,6 @@
 // Receive: document 01's call over the whole stack, and the count of handles. Find the slot, gate, enter, settle: one store of one slot, one write to the
 // pool, then the flow (steps.rt).
-// Leans on `state` for the layout, on `tables` for walks, on `reassemble` for one slot's part. Definitions: specs/Receive.antt.
+// Leans on `state` for the layout, on `slot_walks` and `flow_walks` for searches, on `reassemble` for one slot's part. Definitions: specs/Receive.antt.
 mod issue;
 mod steps;
 

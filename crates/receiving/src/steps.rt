@@ -48,7 +48,7 @@ fn receive_bad(state: &mut [u8], sizes: Sizes, packet: &[u8]) -> Received
     requires { ⌜ Kept sizes (now state) ⌝ }
     ensures { λ r. ⌜ (r ≡ receiveBy (sizes .body) (stackOf sizes (now (state .entry))) (now (packet .entry)) Bad .said) × Becomes sizes (now (state .entry)) (now (state .exit)) (receiveBy (sizes .body) (stackOf sizes (now (state .entry))) (now (packet .entry)) Bad .stack) ⌝ }
 {
-    let empty = tables::find_empty(state, sizes);
+    let empty = slot_walks::find_empty(state, sizes);
     if empty < sizes.slots {
         tables::tick(state, sizes);
         return Received::Refused(Error::InvalidInput);
@@ -66,11 +66,11 @@ fn receive_good(
     requires { ⌜ Kept sizes (now state) × (h .key .tag .0 < 8) × (h .seq < 4) × (4 ≤ length (now packet)) × (sizes .body * sizes .slots ≤ length (now pool)) ⌝ }
     ensures { λ r. ⌜ Makes sizes (receiveBy (sizes .body) (stackOf sizes (now (state .entry))) (now (packet .entry)) (Good h)) r (now (state .entry)) (now (state .exit)) (now (pool .entry)) (now (pool .exit)) ⌝ }
 {
-    let i = tables::find_collecting(state, sizes, h.key);
+    let i = slot_walks::find_collecting(state, sizes, h.key);
     if i < sizes.slots {
         return go_on(state, sizes, pool, packet, h, i);
     }
-    let j = tables::find_empty(state, sizes);
+    let j = slot_walks::find_empty(state, sizes);
     if j < sizes.slots {
         return open(state, sizes, pool, packet, h, j);
     }
@@ -181,7 +181,7 @@ fn gate_by_flow(state: &[u8], sizes: Sizes, h: Header) -> Gate
 {
     let source = h.key.source;
     let tag = h.key.tag;
-    let i = tables::find_flow(state, sizes, source, tag);
+    let i = flow_walks::find_flow(state, sizes, source, tag);
     if i < state::FLOW_COUNT {
         let f = state::flow_at(state, sizes, i);
         let cookie = f.cookie;
@@ -267,5 +267,5 @@ fn close(state: &mut [u8], sizes: Sizes, key: Key)
     if key.owner {
         return;
     }
-    tables::remove_flow(state, sizes, key.source, key.tag);
+    flow_walks::remove_flow(state, sizes, key.source, key.tag);
 }

@@ -4,3 +4,4 @@ pub mod HeadLaws
 pub mod StackLaws
 pub mod Words
 pub mod Fresh
+pub mod Steps

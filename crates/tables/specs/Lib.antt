@@ -1,4 +1,4 @@
 -- The definitions that the contracts of `tables` cite.
--- Walks: what a walk over slots or flows makes of a stack.
+-- Walks: an event, and what a check of time finds in a stack.
 -- Leans on `state`, `flows` and `reassemble`.
 pub mod Walks

@@ -1,27 +1,24 @@
-// Searches and walks over the slots and flows of a state kept in bytes: which slot collects, which place is free, an event counted, a flow set or removed,
-// a check of time, a cancel's sweep. Each touches only what it needs.
-// Leans on `state` for the bytes, on `flows` and `reassemble` for one record's part. Definitions: specs/Walks.antt, and those of `flows` and `reassemble`.
+// What the walks over slots and flows share: an event counted, and what a check of time has found.
+// Definitions: specs/Walks.antt.
+// Leans on `state` for the bytes, on `stamp` for events and what time is left.
 ghost use mathlib.Core.Path.{_≡_};
 ghost use mathlib.Core.List.{_∷_, []};
-ghost use Rattle.tables.specs.Walks.{checkOf};
+ghost use Rattle.stamp.specs.Stamp.{next};
+ghost use Rattle.state.specs.Stack.{Kept, Becomes, stackOf};
+ghost use Rattle.tables.specs.Walks.{ticked, checkOf};
+use stamp::EventStamp;
 use stamp::Timeout;
+use state::Sizes;
 
-mod events;
-mod flow_walks;
-mod slot_walks;
-
-pub use events::tick;
-pub use flow_walks::expire_flows;
-pub use flow_walks::find_flow;
-pub use flow_walks::remove_flow;
-pub use flow_walks::set_flow;
-pub use flow_walks::used_tags;
-pub use slot_walks::earliest_from;
-pub use slot_walks::earliest_listed;
-pub use slot_walks::expire_slots;
-pub use slot_walks::find_collecting;
-pub use slot_walks::find_empty;
-pub use slot_walks::sweep;
+// Counts one event, and gives its stamp.
+pub fn tick(state: &mut [u8], sizes: Sizes) -> EventStamp
+    requires { ⌜ Kept sizes (now state) ⌝ }
+    ensures { λ r. ⌜ (r ≡ next (stackOf sizes (now (state .entry)) .head .now)) × Becomes sizes (now (state .entry)) (now (state .exit)) (ticked (stackOf sizes (now (state .entry)))) ⌝ }
+{
+    let stamp = state::now_at(state, sizes).increment();
+    state::put_counter(state, sizes, stamp.counter);
+    stamp
+}
 
 // What a check of time found so far: the least remaining time, and whether anything expired.
 pub struct Check {
@@ -31,7 +28,7 @@ pub struct Check {
 
 impl Check {
     // The same with one time more: the sooner of the two, and expired where either is.
-    fn noted(self, t: Timeout) -> Check
+    pub fn noted(self, t: Timeout) -> Check
         ensures { λ r. ⌜ r ≡ checkOf (t ∷ []) self ⌝ }
     {
         let least = t.sooner(self.least);

@@ -1,6 +1,6 @@
 -- Records as rows of 64-bit numbers, for callers that hold only numbers: a send, a fragmenter, a handle, a message.
 -- A yes or no is written 1 or 0, and any number but 0 is read as yes.
--- Leans on the records of `mctp`, `fragment` and `estack`.
+-- Leans on the records of `mctp`, `fragment`, `sending`, `receiving` and `handling`.
 use Prim.Native.Nat.{ℕ, _%_}
 use mathlib.Core.Bool.{Bool, true, false}
 use mathlib.Core.List.{List, [], _∷_}
@@ -13,12 +13,12 @@ use Rattle.mctp.specs.declared.Cookie.the-variants.{Absent, Given}
 use Rattle.mctp.specs.Terms.{tagOf, isOwner, tagUnder, cookieNo, cookieValue}
 use Rattle.fragment.specs.declared.Fragmenter.{Fragmenter}
 use Rattle.receiving.specs.declared.ReceiveHandle.{ReceiveHandle}
-use Rattle.estack.specs.declared.Message.{Message}
-use Rattle.estack.specs.declared.Send.{Send}
-use Rattle.estack.specs.declared.SendTag.{SendTag}
-use Rattle.estack.specs.declared.SendTag.the-variants.{Fresh, Given as This}
-use Rattle.estack.specs.declared.SendMtu.{SendMtu}
-use Rattle.estack.specs.declared.SendMtu.the-variants.{Own, AtMost}
+use Rattle.handling.specs.declared.Message.{Message}
+use Rattle.sending.specs.declared.Send.{Send}
+use Rattle.sending.specs.declared.SendTag.{SendTag}
+use Rattle.sending.specs.declared.SendTag.the-variants.{Fresh, Given as This}
+use Rattle.sending.specs.declared.SendMtu.{SendMtu}
+use Rattle.sending.specs.declared.SendMtu.the-variants.{Own, AtMost}
 
 -- word i of a row
 abbrev pub word : ℕ → List ℕ → ℕ

@@ -1,15 +1,11 @@
 // Records as rows of 64-bit numbers: a send, a fragmenter, a message, a handle.
 // A yes or no is 1 or 0, and any number but 0 is yes. Definitions: specs/Words.antt.
-// Leans on `mctp`, `fragment` and `estack` for the records.
+// Leans on `mctp`, `fragment`, `sending`, `receiving` and `handling` for the records.
 ghost use mathlib.Core.Path.{_≡_};
 ghost use Prim.Native.Nat.{_≤_, _<_};
 ghost use Rattle.words.specs.Words.{flagWord, isYes, narrow, tagFrom, cookieFrom, wordsOf, advancedRow, fragmenterOf, handleWords, messageWords, lawful, sendOf, sendTagFrom, sendMtuFrom};
-use estack::Message;
-use estack::ReceiveHandle;
-use estack::Send;
-use estack::SendMtu;
-use estack::SendTag;
 use fragment::Fragmenter;
+use handling::Message;
 use mctp::AppCookie;
 use mctp::Cookie;
 use mctp::Eid;
@@ -17,6 +13,10 @@ use mctp::MsgIC;
 use mctp::MsgType;
 use mctp::Tag;
 use mctp::TagValue;
+use receiving::ReceiveHandle;
+use sending::Send;
+use sending::SendMtu;
+use sending::SendTag;
 
 pub fn flag_word(b: bool) -> u64
     ensures { λ r. ⌜ r ≡ flagWord b ⌝ }

@@ -4,7 +4,7 @@ use mathlib.Core.Path.{_≡_}
 use lib.ListN.{length}
 use borrow.Author.Needs.{needs}
 use Rattle.state.specs.Stack.{Kept}
-use Rattle.board.specs.Answers.{board}
+use Rattle.board.specs.Board.{board}
 use Rattle.bay.proofs.play.Statement.{statement}
 use Rattle.bay.proofs.play.Tie as tie
 

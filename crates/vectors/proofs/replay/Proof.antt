@@ -5,7 +5,7 @@ use lib.ListN.{length}
 use denote.Ref.{now}
 use borrow.Author.Needs.{needs}
 use Rattle.state.specs.Stack.{Kept}
-use Rattle.board.specs.Answers.{board}
+use Rattle.board.specs.Board.{board}
 use Rattle.board.proofs.New.{made-kept}
 use Rattle.vectors.proofs.replay.Statement.{statement}
 use Rattle.vectors.proofs.replay.Tie as tie

@@ -8,7 +8,7 @@ use Rattle.fragment.specs.declared.Fragmenter.{Fragmenter}
 use Rattle.fragment.specs.Step.{Step, stepOf}
 use Rattle.fragment.proofs.Plans.{step-planned}
 use Rattle.words.specs.Words.{fragmenterOf}
-use Rattle.board.specs.Answers.{stepNo, lengthAfter, steppedAfter}
+use Rattle.answers.specs.Answers.{stepNo, lengthAfter, steppedAfter}
 use Rattle.board.proofs.calls.hyphaloom_fragment.Statement.{statement}
 use Rattle.board.proofs.calls.hyphaloom_fragment.Tie as tie
 

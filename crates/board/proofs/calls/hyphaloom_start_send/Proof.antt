@@ -4,7 +4,8 @@ use denote.Ref.{now}
 use Rattle.octets.specs.Pick.{pick}
 use Rattle.fragment.specs.declared.Started.{Started}
 use Rattle.state.proofs.StackLaws.{stays}
-use Rattle.board.specs.Answers.{board, startOf, startedNo, fragmenterAfter}
+use Rattle.answers.specs.Answers.{startedNo, fragmenterAfter}
+use Rattle.board.specs.Board.{board, startOf}
 use Rattle.board.proofs.calls.hyphaloom_start_send.Statement.{statement}
 use Rattle.board.proofs.calls.hyphaloom_start_send.Tie as tie
 

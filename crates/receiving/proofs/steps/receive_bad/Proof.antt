@@ -9,7 +9,7 @@ use Rattle.octets.specs.Find.{find}
 use Rattle.reassemble.specs.Slot.{isEmpty}
 use Rattle.state.specs.Stack.{stackOf}
 use Rattle.state.proofs.StackLaws.{slots-length, stays}
-use Rattle.tables.proofs.FlowLaws.{becomes-as}
+use Rattle.state.proofs.Steps.{becomes-as}
 use Rattle.receiving.specs.Receive.{Receipt}
 use Rattle.receiving.proofs.Receipts.{bad-in, bad-out}
 use Rattle.receiving.proofs.steps.receive_bad.Statement.{statement}

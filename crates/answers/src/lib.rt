@@ -1,0 +1,122 @@
+// What a call answers in numbers, and what it leaves in the row that it is lent: a refusal leaves the row as it was.
+// One function for each kind of answer. Definitions: specs/Answers.antt.
+// Leans on `words` for rows, on the answers of `sending`, `fragment`, `updating`, `receiving` and `handling`.
+ghost use mathlib.Core.Path.{_≡_};
+ghost use Rattle.answers.specs.Answers.{doneNo, updatedNo, nextAfter, receivedNo, handleAfter, deferredWords, fetchedNo, messageAfter, startedNo, fragmenterAfter, stepNo, lengthAfter, steppedAfter};
+use fragment::Fragmenter;
+use fragment::SendOutput;
+use fragment::Started;
+use handling::Deferred;
+use handling::Done;
+use handling::Fetched;
+use receiving::Received;
+use updating::Updated;
+use words::advance;
+use words::flag_word;
+use words::handle_words;
+use words::message_words;
+use words::words_of;
+
+pub fn done_no(d: Done) -> u8
+    ensures { λ r. ⌜ r ≡ doneNo d ⌝ }
+{
+    match d {
+        Done::Done => 0,
+        Done::Refused(err) => err.number(),
+    }
+}
+
+// A send that has started leaves its fragmenter.
+pub fn put_started(fragmenter: &mut [u64; 13], started: Started) -> u8
+    ensures { λ r. ⌜ r ≡ startedNo started ⌝ }
+    ensures { λ _. ⌜ now (fragmenter .exit) ≡ fragmenterAfter started (now (fragmenter .entry)) ⌝ }
+{
+    match started {
+        Started::Sends(f) => {
+            *fragmenter = words_of(f);
+            0
+        }
+        Started::Refused(err) => err.number(),
+    }
+}
+
+// A packet leaves its length and moves the fragmenter; all sent leaves length 0.
+pub fn put_step(
+    fragmenter: &mut [u64; 13],
+    len: &mut u64,
+    next: Fragmenter,
+    output: SendOutput,
+) -> u8
+    ensures { λ r. ⌜ r ≡ stepNo output ⌝ }
+    ensures { λ _. ⌜ now (len .exit) ≡ lengthAfter output (now (len .entry)) ⌝ }
+    ensures { λ _. ⌜ now (fragmenter .exit) ≡ steppedAfter next output (now (fragmenter .entry)) ⌝ }
+{
+    match output {
+        SendOutput::Packet(n) => {
+            advance(fragmenter, next);
+            *len = n as u64;
+            0
+        }
+        SendOutput::Complete { tag: _, cookie: _ } => {
+            *len = 0;
+            0
+        }
+        SendOutput::Error { err, cookie: _ } => err.number(),
+    }
+}
+
+// An update leaves how many milliseconds may pass until the next, and whether something expired.
+pub fn put_next(next: &mut [u64; 2], updated: Updated) -> u8
+    ensures { λ r. ⌜ r ≡ updatedNo updated ⌝ }
+    ensures { λ _. ⌜ now (next .exit) ≡ nextAfter updated (now (next .entry)) ⌝ }
+{
+    match updated {
+        Updated::Next { millis, expired } => {
+            *next = [millis, flag_word(expired)];
+            0
+        }
+        Updated::Refused(err) => err.number(),
+    }
+}
+
+// A packet that ends a message leaves its handle, any other issue 0.
+pub fn put_received(handle: &mut [u64; 2], received: Received) -> u8
+    ensures { λ r. ⌜ r ≡ receivedNo received ⌝ }
+    ensures { λ _. ⌜ now (handle .exit) ≡ handleAfter received (now (handle .entry)) ⌝ }
+{
+    match received {
+        Received::More => {
+            *handle = [0, 0];
+            0
+        }
+        Received::Message(h) => {
+            *handle = handle_words(h);
+            0
+        }
+        Received::Refused(err) => err.number(),
+    }
+}
+
+// The handle found, or issue 0.
+pub fn deferred_words(d: Deferred) -> [u64; 2]
+    ensures { λ r. ⌜ r ≡ deferredWords d ⌝ }
+{
+    match d {
+        Deferred::Found(h) => handle_words(h),
+        Deferred::Nothing => [0, 0],
+    }
+}
+
+// A message that is fetched leaves its row.
+pub fn put_message(message: &mut [u64; 10], fetched: Fetched) -> u8
+    ensures { λ r. ⌜ r ≡ fetchedNo fetched ⌝ }
+    ensures { λ _. ⌜ now (message .exit) ≡ messageAfter fetched (now (message .entry)) ⌝ }
+{
+    match fetched {
+        Fetched::Message(m) => {
+            *message = message_words(m);
+            0
+        }
+        Fetched::Refused(err) => err.number(),
+    }
+}

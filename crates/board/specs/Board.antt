@@ -1,0 +1,20 @@
+-- The board's sizes, and a send as the exported call reads it from a row.
+-- What the other calls answer is in `answers`, what they do in `estack` and the crates that it hands on.
+-- Leans on `sending` for the send, on `words` for its row.
+use mathlib.Core.List.{List}
+use Prim.Native.Nat.{ℕ}
+use Rattle.octets.specs.Pick.{pick}
+use Rattle.mctp.specs.declared.Error.the-variants.{InvalidInput}
+use Rattle.fragment.specs.declared.Started.the-variants.{Refused as Unstarted}
+use Rattle.state.specs.declared.Sizes.{Sizes}
+use Rattle.state.specs.Stack.{Stack}
+use Rattle.sending.specs.Sends.{Sent, unsent, startSendOf}
+use Rattle.words.specs.Words.{lawful, sendOf}
+
+-- four slots, bodies of at most 1,032 bytes
+abbrev pub board : Sizes
+board = record { slots = 4; body = 1032 }
+
+-- a row that is no lawful send is InvalidInput, with nothing changed
+unfoldable pub startOf : List ℕ → Stack → Sent
+startOf w st = pick (lawful w) (startSendOf (sendOf w) st) (unsent st (Unstarted InvalidInput))

@@ -1,0 +1,3 @@
+-- Whose a place is; a send's flow by its parts.
+pub mod FlowLaws
+pub mod FlowSends

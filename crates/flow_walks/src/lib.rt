@@ -1,0 +1,223 @@
+// Walks over the flows of a state kept in bytes: which place, the used tags, a flow set or removed, a check of time.
+// Each touches only what it needs. Definitions: specs/FlowWalks.antt, and those of `flows` and `tables`.
+// Leans on `state` for the bytes, on `flows` for one flow's part, on `tables` for the check and for events.
+ghost use mathlib.Core.Path.{_≡_};
+ghost use mathlib.Core.List.{map, _∷_, []};
+ghost use Prim.Native.Nat.{_+_, _≤_, _<_, _^_};
+ghost use Rattle.octets.specs.Find.{find};
+ghost use Rattle.flows.specs.Table.{isFree, flowPlace, removed, usedTags, flowTimeout, fadedFlow, insertFlow, counted as countedBy, turned, freshFlow, fixedFlow, setFlow};
+ghost use Rattle.state.specs.Layout.{flowCount};
+ghost use Rattle.state.specs.Stack.{Kept, Becomes, stackOf, flowAt, reflow};
+ghost use Rattle.tables.specs.Walks.{renow, reflows, checkOf, flowTimes};
+ghost use Rattle.flow_walks.specs.FlowWalks.{tableOf, retable, hasFlowWord};
+use flows::Granted;
+use flows::TagFound;
+use flows::Wish;
+use mctp::Cookie;
+use mctp::Eid;
+use mctp::Error;
+use mctp::TagValue;
+use stamp::EventStamp;
+use state::Sizes;
+use tables::Check;
+
+fn find_flow_word(state: &[u8], sizes: Sizes, w: u32) -> usize
+    requires { ⌜ Kept sizes (now state) ⌝ }
+    ensures { λ r. ⌜ (r ≡ find (hasFlowWord w) (stackOf sizes (now (state .entry)) .flows)) × (r ≤ flowCount) ⌝ }
+{
+    let mut i = 0;
+    while i < state::FLOW_COUNT {
+        if state::flow_word_at(state, sizes, i) == w {
+            return i;
+        }
+        i += 1;
+    }
+    i
+}
+
+// The flow of that peer and tag, or 64.
+pub fn find_flow(state: &[u8], sizes: Sizes, peer: Eid, tag: TagValue) -> usize
+    requires { ⌜ Kept sizes (now state) ⌝ }
+    ensures { λ r. ⌜ (r ≡ flowPlace peer tag (stackOf sizes (now (state .entry)) .flows)) × (r ≤ flowCount) ⌝ }
+{
+    find_flow_word(
+        state,
+        sizes,
+        1 + 256 * (peer.0 as u32 + 256 * (tag.0 as u32)),
+    )
+}
+
+// The first place that holds no flow, or 64.
+fn find_free(state: &[u8], sizes: Sizes) -> usize
+    requires { ⌜ Kept sizes (now state) ⌝ }
+    ensures { λ r. ⌜ (r ≡ find isFree (stackOf sizes (now (state .entry)) .flows)) × (r ≤ flowCount) ⌝ }
+{
+    let mut i = 0;
+    while i < state::FLOW_COUNT {
+        let f = state::flow_at(state, sizes, i);
+        if f.used {
+            i += 1;
+        } else {
+            return i;
+        }
+    }
+    i
+}
+
+// The used-tag byte of a peer.
+pub fn used_tags(state: &[u8], sizes: Sizes, peer: Eid) -> u8
+    requires { ⌜ Kept sizes (now state) ⌝ }
+    ensures { λ r. ⌜ r ≡ usedTags peer (stackOf sizes (now (state .entry)) .flows) ⌝ }
+{
+    let mut used: u8 = 0;
+    let mut i = 0;
+    while i < state::FLOW_COUNT {
+        let f = state::flow_at(state, sizes, i);
+        used = f.mark(peer, used);
+        i += 1;
+    }
+    used
+}
+
+// The flow of that peer and tag goes; absent is no error.
+pub fn remove_flow(state: &mut [u8], sizes: Sizes, peer: Eid, tag: TagValue)
+    requires { ⌜ Kept sizes (now state) ⌝ }
+    ensures { λ _. ⌜ Becomes sizes (now (state .entry)) (now (state .exit)) (reflows (removed peer tag (stackOf sizes (now (state .entry)) .flows)) (stackOf sizes (now (state .entry)))) ⌝ }
+{
+    let at = find_flow(state, sizes, peer, tag);
+    if at < state::FLOW_COUNT {
+        state::put_flow(state, sizes, at, flows::no_flow());
+    }
+}
+
+// The stamp of a new flow: one that expires counts an event.
+fn counted(state: &mut [u8], sizes: Sizes, expires: bool) -> EventStamp
+    requires { ⌜ Kept sizes (now state) ⌝ }
+    ensures { λ r. ⌜ (r ≡ countedBy expires (stackOf sizes (now (state .entry)) .head .now)) × Becomes sizes (now (state .entry)) (now (state .exit)) (renow (countedBy expires (stackOf sizes (now (state .entry)) .head .now)) (stackOf sizes (now (state .entry)))) ⌝ }
+{
+    if expires {
+        return tables::tick(state, sizes);
+    }
+    state::now_at(state, sizes)
+}
+
+// A new flow in the first free place; one that expires counts an event, even when the table is full.
+fn insert_flow(
+    state: &mut [u8],
+    sizes: Sizes,
+    peer: Eid,
+    tag: TagValue,
+    expires: bool,
+    cookie: Cookie,
+) -> Granted
+    requires { ⌜ Kept sizes (now state) × (tag .0 < 8) ⌝ }
+    ensures { λ r. ⌜ (r ≡ insertFlow peer tag expires cookie (tableOf (stackOf sizes (now (state .entry)))) .granted) × Becomes sizes (now (state .entry)) (now (state .exit)) (retable (insertFlow peer tag expires cookie (tableOf (stackOf sizes (now (state .entry)))) .table) (stackOf sizes (now (state .entry)))) ⌝ }
+{
+    let stamp = counted(state, sizes, expires);
+    let i = find_free(state, sizes);
+    if i < state::FLOW_COUNT {
+        let f = flows::new_flow(peer, tag, expires, cookie, stamp);
+        state::put_flow(state, sizes, i, f);
+        return Granted::Tag(tag);
+    }
+    Granted::Refused(Error::TagUnavailable)
+}
+
+// A flow under a fresh tag: the counter goes up even if none is free.
+fn fresh_flow(state: &mut [u8], sizes: Sizes, peer: Eid, expires: bool, cookie: Cookie) -> Granted
+    requires { ⌜ Kept sizes (now state) ⌝ }
+    ensures { λ r. ⌜ (r ≡ freshFlow peer expires cookie (tableOf (stackOf sizes (now (state .entry)))) .granted) × Becomes sizes (now (state .entry)) (now (state .exit)) (retable (freshFlow peer expires cookie (tableOf (stackOf sizes (now (state .entry)))) .table) (stackOf sizes (now (state .entry)))) ⌝ }
+{
+    let start = turn_counter(state, sizes);
+    let used = used_tags(state, sizes, peer);
+    match flows::tags::free_tag(used, start) {
+        TagFound::Free(tag) => insert_flow(state, sizes, peer, tag, expires, cookie),
+        TagFound::NoneFree => Granted::Refused(Error::TagUnavailable),
+    }
+}
+
+// The tag counter goes up by 1 modulo 8.
+fn turn_counter(state: &mut [u8], sizes: Sizes) -> u8
+    requires { ⌜ Kept sizes (now state) ⌝ }
+    ensures { λ r. ⌜ (r ≡ turned (tableOf (stackOf sizes (now (state .entry)))) .counter) × Becomes sizes (now (state .entry)) (now (state .exit)) (retable (turned (tableOf (stackOf sizes (now (state .entry))))) (stackOf sizes (now (state .entry)))) × (r < 8) ⌝ }
+{
+    let h = state::head_at(state, sizes);
+    let turned = h.with_next_tag();
+    state::put_head(state, sizes, turned);
+    turned.next_tag
+}
+
+// A flow under a given owned tag: one that stands is used again, unless it expires.
+fn fixed_flow(
+    state: &mut [u8],
+    sizes: Sizes,
+    peer: Eid,
+    tag: TagValue,
+    expires: bool,
+    cookie: Cookie,
+) -> Granted
+    requires { ⌜ Kept sizes (now state) × (tag .0 < 8) ⌝ }
+    ensures { λ r. ⌜ (r ≡ fixedFlow peer tag expires cookie (tableOf (stackOf sizes (now (state .entry)))) .granted) × Becomes sizes (now (state .entry)) (now (state .exit)) (retable (fixedFlow peer tag expires cookie (tableOf (stackOf sizes (now (state .entry)))) .table) (stackOf sizes (now (state .entry)))) ⌝ }
+{
+    let i = find_flow(state, sizes, peer, tag);
+    if i < state::FLOW_COUNT {
+        let f = state::flow_at(state, sizes, i);
+        let lasting = f.is_lasting();
+        if lasting {
+            return Granted::Tag(tag);
+        }
+        return Granted::Refused(Error::BadArgument);
+    }
+    insert_flow(state, sizes, peer, tag, expires, cookie)
+}
+
+// Sets or checks the flow of a send under an owned tag.
+pub fn set_flow(
+    state: &mut [u8],
+    sizes: Sizes,
+    peer: Eid,
+    wish: Wish,
+    expires: bool,
+    cookie: Cookie,
+) -> Granted
+    requires { ⌜ Kept sizes (now state) ⌝ }
+    ensures { λ r. ⌜ (r ≡ setFlow peer wish expires cookie (tableOf (stackOf sizes (now (state .entry)))) .granted) × Becomes sizes (now (state .entry)) (now (state .exit)) (retable (setFlow peer wish expires cookie (tableOf (stackOf sizes (now (state .entry)))) .table) (stackOf sizes (now (state .entry)))) ⌝ }
+{
+    match wish {
+        Wish::Fresh => fresh_flow(state, sizes, peer, expires, cookie),
+        Wish::Fixed(tag) => {
+            if 7 < tag.0 {
+                return Granted::Refused(Error::InvalidInput);
+            }
+            fixed_flow(state, sizes, peer, tag, expires, cookie)
+        }
+    }
+}
+
+// One flow of a check: expired, it goes.
+fn expire_flow(state: &mut [u8], sizes: Sizes, i: usize, clock: u64, c: Check) -> Check
+    requires { ⌜ Kept sizes (now state) × (i < flowCount) ⌝ }
+    ensures { λ r. ⌜ (r ≡ checkOf (flowTimeout clock (flowAt i (stackOf sizes (now (state .entry)))) ∷ []) c) × Becomes sizes (now (state .entry)) (now (state .exit)) (reflow i (fadedFlow clock (flowAt i (stackOf sizes (now (state .entry))))) (stackOf sizes (now (state .entry)))) ⌝ }
+{
+    let t = state::flow_at(state, sizes, i).check_expired(clock);
+    let found = c.noted(t);
+    let expired = t.is_expired();
+    if expired {
+        state::put_flow(state, sizes, i, flows::no_flow());
+    }
+    found
+}
+
+// Expired flows go; what the check found goes on from `c`.
+pub fn expire_flows(state: &mut [u8], sizes: Sizes, clock: u64, c: Check) -> Check
+    requires { ⌜ Kept sizes (now state) ⌝ }
+    ensures { λ r. ⌜ (r ≡ checkOf (flowTimes clock (stackOf sizes (now (state .entry)))) c) × Becomes sizes (now (state .entry)) (now (state .exit)) (reflows (map (fadedFlow clock) (stackOf sizes (now (state .entry)) .flows)) (stackOf sizes (now (state .entry)))) ⌝ }
+{
+    let mut found = c;
+    let mut i = 0;
+    while i < state::FLOW_COUNT {
+        found = expire_flow(state, sizes, i, clock, found);
+        i += 1;
+    }
+    found
+}

@@ -1,0 +1,2 @@
+-- A send by its parts.
+pub mod SendLaws

@@ -1,0 +1,19 @@
+-- `planned` stops where the sum would pass 2^64 - 1, and is the sum before.
+use borrow.Author.Needs.{needs}
+use Rattle.updating.proofs.planned.Statement.{statement}
+use Rattle.updating.proofs.planned.Tie as tie
+
+sub-if1 : tie.Need-sub-if1
+sub-if1 c = search needs
+
+returns : tie.Need-returns
+returns c = search needs
+
+add-result : tie.Need-add-result
+add-result c = search needs
+
+returns-2 : tie.Need-returns-2
+returns-2 c = search needs
+
+pub planned-spec : {M : Type 1} → statement M
+planned-spec = tie.close (tie.spec sub-if1 returns add-result returns-2)

@@ -1,0 +1,55 @@
+-- Document 01, `update`: clock below the last: InvalidInput; otherwise the clock is taken; below the planned check: the gap and false; else slots and flows
+-- expire, and the least of 100 and every remaining time is told and planned. The planned check stops at 2^64 - 1.
+-- Leans on `tables` for what a check finds, on `flows` and `reassemble` for what expires.
+use Prim.Native.Nat.{ℕ, _+_, _-_, min}
+use mathlib.Core.Bool.{Bool, true, false}
+use mathlib.Core.List.{map}
+use lib.Dec.{ltb}
+use Rattle.octets.specs.Pick.{pick}
+use Rattle.mctp.specs.declared.Error.the-variants.{InvalidInput}
+use Rattle.stamp.specs.Stamp.{clocked}
+use Rattle.flows.specs.Table.{fadedFlow}
+use Rattle.reassemble.specs.Slot.{fadedSlot}
+use Rattle.state.specs.Head.{replanned}
+use Rattle.state.specs.Stack.{Stack}
+use Rattle.tables.specs.Walks.{renow, leastLeft, anyExpired, slotTimes, flowTimes}
+use Rattle.updating.specs.declared.Updated.{Updated}
+use Rattle.updating.specs.declared.Updated.the-variants.{Next, Refused}
+
+pub record Update : Type 0 where
+  pub stack : Stack
+  pub said : Updated
+
+-- a check is planned at most so often
+abbrev pub interval : ℕ
+interval = 100
+
+-- the least of 100 and every remaining time; what has expired, what no time runs for and a handle that is out have none
+abbrev pub leastOf : ℕ → Stack → ℕ
+leastOf now st = leastLeft (flowTimes now st) (leastLeft (slotTimes now st) interval)
+
+-- a slot or a flow expires
+abbrev pub expires : ℕ → Stack → Bool
+expires now st = anyExpired (flowTimes now st) (anyExpired (slotTimes now st) false)
+
+-- the planned check stops at 2^64 - 1
+abbrev pub plannedAt : ℕ → ℕ → ℕ
+plannedAt now least = min (now + least) 18446744073709551615
+
+-- the check itself, at the clock that was taken
+unfoldable pub checked : ℕ → Stack → Update
+checked now st = record {
+  stack = record {
+    head = replanned (plannedAt now (leastOf now st)) (st .head);
+    flows = map (fadedFlow now) (st .flows);
+    slots = map (fadedSlot now) (st .slots);
+  };
+  said = Next (leastOf now st) (expires now st);
+}
+
+unfoldable pub updateOf : ℕ → Stack → Update
+updateOf now st =
+    pick (ltb now (st .head .now .clock)) (record { stack = st; said = Refused InvalidInput })
+    (pick (ltb now (st .head .«next_timeout»))
+    (record { stack = renow (clocked now (st .head .now)) st; said = Next (st .head .«next_timeout» - now) false })
+    (checked now (renow (clocked now (st .head .now)) st)))

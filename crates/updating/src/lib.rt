@@ -1,0 +1,79 @@
+// Updating: the clock is taken, and where the planned check is reached slots and flows expire; after the Rust's `Stack` in src/lib.rs.
+// Definitions: specs/Update.antt.
+// Leans on `slot_walks` and `flow_walks` for what expires, on `state` for the clock and the planned check.
+ghost use mathlib.Core.Path.{_≡_};
+ghost use Prim.Native.Nat.{_+_, _≤_, _<_, min};
+ghost use Rattle.state.specs.Head.{renowed, replanned};
+ghost use Rattle.state.specs.Stack.{Kept, Becomes, stackOf, rehead};
+ghost use Rattle.updating.specs.Update.{updateOf, checked, plannedAt};
+use mctp::Error;
+use stamp::EventStamp;
+use state::Head;
+use state::Sizes;
+use tables::Check;
+
+// How many milliseconds may pass until the next update, and whether something expired.
+pub enum Updated {
+    Next { millis: u64, expired: bool },
+    Refused(Error),
+}
+
+pub const TIMEOUT_INTERVAL: u32 = 100;
+
+// The planned check stops at 2^64 - 1.
+fn planned(clock: u64, least: u32) -> u64
+    ensures { λ r. ⌜ r ≡ plannedAt clock least ⌝ }
+{
+    if 18446744073709551615 - clock < (least as u64) {
+        return 18446744073709551615;
+    }
+    clock + (least as u64)
+}
+
+fn put_clock(state: &mut [u8], sizes: Sizes, h: Head, stamp: EventStamp, next_timeout: u64)
+    requires { ⌜ Kept sizes (now state) × (h ≡ stackOf sizes (now state) .head) × («next_timeout» ≤ stamp .clock + 100) ⌝ }
+    ensures { λ _. ⌜ Becomes sizes (now (state .entry)) (now (state .exit)) (rehead (replanned «next_timeout» (renowed stamp h)) (stackOf sizes (now (state .entry)))) ⌝ }
+{
+    state::put_head(state, sizes, h.with_clock(stamp, next_timeout));
+}
+
+// The check itself: slots and flows expire, and the next check is planned.
+fn check(state: &mut [u8], sizes: Sizes, clock: u64) -> Updated
+    requires { ⌜ Kept sizes (now state) × (clock ≡ stackOf sizes (now state) .head .now .clock) ⌝ }
+    ensures { λ r. ⌜ (r ≡ checked clock (stackOf sizes (now (state .entry))) .said) × Becomes sizes (now (state .entry)) (now (state .exit)) (checked clock (stackOf sizes (now (state .entry))) .stack) ⌝ }
+{
+    let start = Check {
+        least: TIMEOUT_INTERVAL,
+        expired: false,
+    };
+    let slots = slot_walks::expire_slots(state, sizes, clock, start);
+    let c = flow_walks::expire_flows(state, sizes, clock, slots);
+    let h = state::head_at(state, sizes);
+    put_clock(state, sizes, h, h.now, planned(clock, c.least));
+    Updated::Next {
+        millis: c.least as u64,
+        expired: c.expired,
+    }
+}
+
+// Takes the clock, and where the planned check is reached lets slots and flows expire.
+pub fn update(state: &mut [u8], sizes: Sizes, clock: u64) -> Updated
+    requires { ⌜ Kept sizes (now state) ⌝ }
+    ensures { λ r. ⌜ (r ≡ updateOf clock (stackOf sizes (now (state .entry))) .said) × Becomes sizes (now (state .entry)) (now (state .exit)) (updateOf clock (stackOf sizes (now (state .entry))) .stack) ⌝ }
+{
+    let h = state::head_at(state, sizes);
+    if clock < h.now.clock {
+        return Updated::Refused(Error::InvalidInput);
+    }
+    let last = h.now;
+    let stamp = last.update_clock(clock);
+    let planned = h.next_timeout;
+    put_clock(state, sizes, h, stamp, planned);
+    if clock < planned {
+        return Updated::Next {
+            millis: planned - clock,
+            expired: false,
+        };
+    }
+    check(state, sizes, clock)
+}
