@@ -24,7 +24,7 @@ use Rattle.state.specs.declared.Head.{Head}
 use Rattle.state.specs.Layout.{flowCount, size}
 use Rattle.state.specs.Head.{reowned}
 use Rattle.state.specs.Stack.{Stack, Becomes, rehead}
-use Rattle.tables.specs.Walks.{reslots, reflows}
+use Rattle.walks.specs.Walks.{reslots, reflows}
 use Rattle.slot_walks.specs.SlotWalks.{swept, blocked}
 use Rattle.handling.specs.declared.Done.{Done}
 use Rattle.handling.specs.declared.Done.the-variants.{Done as Well, Refused}

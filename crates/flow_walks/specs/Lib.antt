@@ -1,4 +1,4 @@
--- The definitions that the contracts of `flow_walks` cite, beside those of `flows` and `tables`.
+-- The definitions that the contracts of `flow_walks` cite, beside those of `flows` and `walks`.
 -- FlowWalks: the table that a send looks at, in the stack.
 -- Leans on `flows` and `state`.
 pub mod FlowWalks

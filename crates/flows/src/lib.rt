@@ -5,7 +5,7 @@ ghost use mathlib.Core.Path.{_≡_};
 ghost use Prim.Native.Nat.{_<_};
 ghost use Rattle.octets.specs.Bytes.{lay, puts};
 ghost use Rattle.flows.specs.Tags.{marked};
-ghost use Rattle.flows.specs.Table.{noFlow, isFlow, lasts, newFlow, flowTimeout};
+ghost use Rattle.flows.specs.Table.{noFlow, lasts, newFlow, flowTimeout};
 ghost use Rattle.flows.specs.Codec.{expiryNo, expiryStamp, expiryOf, flowOf, flowBytes, flowRow, FlowOk};
 use mctp::Cookie;
 use mctp::Eid;
@@ -92,19 +92,6 @@ pub fn new_flow(peer: Eid, tag: TagValue, expires: bool, cookie: Cookie, stamp: 
 }
 
 impl Flow {
-    // The flow of that peer and tag.
-    pub fn is_for(self, peer: Eid, tag: TagValue) -> bool
-        ensures { λ r. ⌜ r ≡ isFlow peer tag self ⌝ }
-    {
-        if self.used {
-            if self.peer.0 != peer.0 {
-                return false;
-            }
-            return self.tag.0 == tag.0;
-        }
-        false
-    }
-
     // It has no expiry.
     pub fn is_lasting(self) -> bool
         ensures { λ r. ⌜ r ≡ lasts self ⌝ }

@@ -28,7 +28,7 @@ use Rattle.reassemble.specs.Search.{slotFor}
 use Rattle.reassemble.specs.Enter.{enter, append, appended, outcomeOf}
 use Rattle.fragment.specs.Cutting.{bodyIn, saysSom}
 use Rattle.state.specs.Stack.{Stack, slotAt}
-use Rattle.tables.specs.Walks.{ticked}
+use Rattle.walks.specs.Walks.{ticked}
 use Rattle.receiving.specs.declared.ReceiveHandle.{ReceiveHandle}
 use Rattle.receiving.specs.declared.Received.the-variants.{More}
 use Rattle.receiving.specs.Receive.{Receipt, receivedAs, nextIssue, saidOf, settled, land, opening, gateOf, receiveAt, receiveBy, receiveOf}

@@ -14,7 +14,7 @@ use Rattle.reassemble.specs.Search.{slotFor}
 use Rattle.reassemble.specs.Enter.{isLocal, opening, gate, gateEmpty, enter, append}
 use Rattle.fragment.specs.Step.{newOf, stepOf}
 use Rattle.fragment.specs.Run.{written}
-use Rattle.tables.specs.Walks.{leastLeft, anyExpired}
+use Rattle.walks.specs.Walks.{leastLeft, anyExpired}
 use Rattle.receiving.specs.Receive.{nextIssue, land, receiveAt, receiveBy, receiveOf}
 use Rattle.sending.specs.Sends.{granted, ownedSend, tagSend, startSendOf}
 use Rattle.updating.specs.Update.{checked, updateOf}

@@ -21,7 +21,7 @@ use Rattle.flows.specs.Table.{standing, isFlow, newFlow, insertFlow, withTag, f
 use Rattle.reassemble.specs.Slot.{fadedSlot}
 use Rattle.reassemble.specs.Search.{slotFor}
 use Rattle.reassemble.specs.Enter.{isLocal, opening, gate, gateEmpty, gateReply, enter, append}
-use Rattle.tables.specs.Walks.{leastLeft}
+use Rattle.walks.specs.Walks.{leastLeft}
 use Rattle.fragment.specs.Cutting.{InTurn, joined, kindIn, Carries}
 use Rattle.sending.specs.declared.Send.{Send}
 use Rattle.sending.specs.declared.SendTag.the-variants.{Fresh}

@@ -24,7 +24,7 @@ use Rattle.reassemble.specs.Search.{slotFor}
 use Rattle.reassemble.specs.Enter.{enter, append, appended, begun, freed, outcomeOf}
 use Rattle.fragment.specs.Cutting.{bodyIn, saysSom}
 use Rattle.state.specs.Stack.{Stack, slotAt}
-use Rattle.tables.specs.Walks.{ticked}
+use Rattle.walks.specs.Walks.{ticked}
 use Rattle.receiving.specs.Receive.{Receipt, nextIssue, saidOf, settled, land, opening, gateOf, receiveAt, receiveBy, receiveOf}
 use Rattle.promises.specs.Delivery.{cookieFor}
 use Rattle.promises.specs.History.{takes}

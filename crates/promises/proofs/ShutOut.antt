@@ -34,7 +34,7 @@ use Rattle.receiving.specs.declared.ReceiveHandle.{ReceiveHandle}
 use Rattle.receiving.specs.declared.Received.the-variants.{Message as Told}
 use Rattle.updating.specs.declared.Updated.the-variants.{Next, Refused}
 use Rattle.receiving.specs.Receive.{Receipt, saidOf, receiveOf}
-use Rattle.tables.specs.Walks.{leastLeft, slotTimes}
+use Rattle.walks.specs.Walks.{leastLeft, slotTimes}
 use Rattle.updating.specs.Update.{Update, interval, leastOf, checked, updateOf}
 use Rattle.estack.specs.Basics.{freeTagsOf}
 use Rattle.promises.specs.Calls.{World, Call, receive, step, receipt}

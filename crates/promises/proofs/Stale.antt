@@ -47,7 +47,7 @@ use Rattle.fragment.specs.Cutting.{bodyIn}
 use Rattle.stamp.specs.Stamp.{next, clocked}
 use Rattle.state.specs.Stack.{Stack, slotAt, reslot}
 use Rattle.slot_walks.specs.SlotWalks.{swept}
-use Rattle.tables.specs.Walks.{ticked, renow}
+use Rattle.walks.specs.Walks.{ticked, renow}
 use Rattle.flow_walks.specs.FlowWalks.{tableOf, retable}
 use Rattle.receiving.specs.declared.ReceiveHandle.{ReceiveHandle}
 use Rattle.receiving.specs.declared.Received.the-variants.{Message as Told}

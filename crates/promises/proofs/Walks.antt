@@ -24,7 +24,7 @@ use Rattle.reassemble.specs.Slot.{blankSlot, collectingState, outState, issueIs
 use Rattle.reassemble.specs.Search.{earliest}
 use Rattle.state.specs.Stack.{Stack, slotAt}
 use Rattle.slot_walks.specs.SlotWalks.{swept}
-use Rattle.tables.specs.Walks.{renow}
+use Rattle.walks.specs.Walks.{renow}
 use Rattle.receiving.specs.declared.ReceiveHandle.{ReceiveHandle}
 use Rattle.receiving.specs.Receive.{nextIssue}
 use Rattle.handling.specs.Handles.{Outcome, Lookup, isGood, handled, takeOf, deferredOf, bySourceOf}

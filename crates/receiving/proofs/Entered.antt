@@ -34,7 +34,7 @@ use Rattle.state.specs.declared.Sizes.{Sizes}
 use Rattle.state.specs.Slot.{SlotOk, issueNo}
 use Rattle.state.specs.Stack.{Stack, Kept, Becomes, stackOf}
 use Rattle.state.proofs.StackLaws.{flow-ok, head-ok}
-use Rattle.tables.specs.Walks.{ticked}
+use Rattle.walks.specs.Walks.{ticked}
 use Rattle.slot_walks.proofs.SlotChecks.{blank-ok}
 use Rattle.receiving.specs.Receive.{nextIssue}
 

@@ -40,7 +40,7 @@ use Rattle.state.specs.declared.Sizes.{Sizes}
 use Rattle.state.specs.Head.{reissued}
 use Rattle.state.specs.Stack.{Stack, Becomes, stackOf, slotAt, rehead}
 use Rattle.state.proofs.StackLaws.{andThen}
-use Rattle.tables.specs.Walks.{ticked, reflows}
+use Rattle.walks.specs.Walks.{ticked, reflows}
 use Rattle.state.proofs.Steps.{becomes-as}
 use Rattle.receiving.specs.declared.Received.{Received}
 use Rattle.receiving.specs.declared.Received.the-variants.{Refused}

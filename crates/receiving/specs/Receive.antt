@@ -31,7 +31,7 @@ use Rattle.state.specs.Head.{reissued}
 use Rattle.state.specs.declared.Progress.{Progress}
 use Rattle.state.specs.declared.Sizes.{Sizes}
 use Rattle.state.specs.Stack.{Stack, Becomes, slotAt, reslot}
-use Rattle.tables.specs.Walks.{ticked}
+use Rattle.walks.specs.Walks.{ticked}
 use Rattle.receiving.specs.declared.ReceiveHandle.{ReceiveHandle}
 use Rattle.receiving.specs.declared.Received.{Received}
 use Rattle.receiving.specs.declared.Received.the-variants.{More, Message, Refused}

@@ -12,7 +12,7 @@ ghost use Rattle.reassemble.specs.Enter.{gateEmpty, gateReply, Planned};
 ghost use Rattle.flows.specs.Table.{standing, flowCookie};
 ghost use Rattle.state.specs.Slot.{SlotOk, progressOf};
 ghost use Rattle.state.specs.Stack.{Kept, Becomes, stackOf, slotAt};
-ghost use Rattle.tables.specs.Walks.{reflows};
+ghost use Rattle.walks.specs.Walks.{reflows};
 ghost use Rattle.receiving.specs.Receive.{receiveOf, receiveBy, receiveAt, goesOn, land, settled, concluded, saidOf, flowsAfter, nextIssue, Makes};
 use crate::ReceiveHandle;
 use crate::Received;
@@ -50,7 +50,7 @@ fn receive_bad(state: &mut [u8], sizes: Sizes, packet: &[u8]) -> Received
 {
     let empty = slot_walks::find_empty(state, sizes);
     if empty < sizes.slots {
-        tables::tick(state, sizes);
+        walks::tick(state, sizes);
         return Received::Refused(Error::InvalidInput);
     }
     Received::Refused(Error::NoSpace)
@@ -130,7 +130,7 @@ fn carry(
     ensures { λ r. ⌜ Makes sizes (land (sizes .body) i (stackOf sizes (now (state .entry))) h (now (packet .entry)) (Pass (slotAt i (stackOf sizes (now (state .entry)))))) r (now (state .entry)) (now (state .exit)) (now (pool .entry)) (now (pool .exit)) ⌝ }
 {
     let n = packet.len() - 4;
-    tables::tick(state, sizes);
+    walks::tick(state, sizes);
     let seq = (h.seq % 4 + 1) % 4;
     let len = p.len + n;
     let next = Progress { seq: seq, len: len };
@@ -153,7 +153,7 @@ fn open(
     ensures { λ r. ⌜ Makes sizes (receiveAt (sizes .body) i (stackOf sizes (now (state .entry))) (now (packet .entry)) (Good h)) r (now (state .entry)) (now (state .exit)) (now (pool .entry)) (now (pool .exit)) ⌝ }
 {
     let gate = gate_at(state, sizes, h);
-    tables::tick(state, sizes);
+    walks::tick(state, sizes);
     match gate {
         Gate::Shut(err) => Received::Refused(err),
         Gate::Pass(s) => enter(state, sizes, pool, packet, h, i, s),
@@ -203,7 +203,7 @@ fn enter(
     requires { ⌜ Kept sizes (now state) × (h .key .tag .0 < 8) × (h .seq < 4) × (4 ≤ length (now packet)) × (sizes .body * sizes .slots ≤ length (now pool)) × (i < sizes .slots) × SlotOk (sizes .body) s ⌝ }
     ensures { λ r. ⌜ Makes sizes (land (sizes .body) i (stackOf sizes (now (state .entry))) h (now (packet .entry)) (Pass s)) r (now (state .entry)) (now (state .exit)) (now (pool .entry)) (now (pool .exit)) ⌝ }
 {
-    let stamp = tables::tick(state, sizes);
+    let stamp = walks::tick(state, sizes);
     let issue = next_issue(state::issue_at(state, sizes));
     let e = reassemble::receive(s, h, packet, stamp, issue, sizes.body);
     settle(state, sizes, pool, packet, h.key, i, issue, e)

@@ -1,6 +1,6 @@
 // Walks over the slots of a state kept in bytes: which slot collects, which is empty, the earliest message, a check of time, a cancel's sweep.
-// Each touches only what it needs. Definitions: specs/SlotWalks.antt, and those of `reassemble` and `tables`.
-// Leans on `state` for the bytes, on `reassemble` for one slot's part, on `tables` for the check.
+// Each touches only what it needs. Definitions: specs/SlotWalks.antt, and those of `reassemble` and `walks`.
+// Leans on `state` for the bytes, on `reassemble` for one slot's part, on `walks` for the check.
 ghost use mathlib.Core.Path.{_≡_};
 ghost use mathlib.Core.List.{map, _∷_, []};
 ghost use Prim.Native.Nat.{_+_, _≤_, _<_};
@@ -10,7 +10,7 @@ ghost use Rattle.reassemble.specs.Slot.{blankSlot, isEmpty, collects, keptUnder
 ghost use Rattle.reassemble.specs.Search.{earliest};
 ghost use Rattle.state.specs.Slot.{wordOf};
 ghost use Rattle.state.specs.Stack.{Kept, Becomes, stackOf, slotAt, reslot};
-ghost use Rattle.tables.specs.Walks.{reslots, checkOf, slotTimes};
+ghost use Rattle.walks.specs.Walks.{reslots, checkOf, slotTimes};
 ghost use Rattle.slot_walks.specs.SlotWalks.{swept, blocked, hasWord, betterOf, chosen};
 use mctp::Cookie;
 use mctp::Eid;
@@ -18,7 +18,7 @@ use mctp::Key;
 use mctp::TagValue;
 use reassemble::Reassembler;
 use state::Sizes;
-use tables::Check;
+use walks::Check;
 
 // A collecting slot's state and key as one number.
 fn word_of(key: Key) -> u32

@@ -15,8 +15,8 @@ use Rattle.state.specs.declared.Sizes.{Sizes}
 use Rattle.state.specs.Head.{renowed, replanned}
 use Rattle.state.specs.Stack.{Stack, Becomes, stackOf, rehead}
 use Rattle.state.proofs.StackLaws.{andThen}
-use Rattle.tables.specs.declared.Check.{Check}
-use Rattle.tables.specs.Walks.{renow, reslots, reflows, checkOf, slotTimes, flowTimes}
+use Rattle.walks.specs.declared.Check.{Check}
+use Rattle.walks.specs.Walks.{renow, reslots, reflows, checkOf, slotTimes, flowTimes}
 use Rattle.updating.specs.declared.Updated.the-variants.{Next}
 use Rattle.updating.specs.Update.{interval, leastOf, expires, plannedAt, checked}
 use Rattle.state.proofs.Steps.{Met}

@@ -10,7 +10,7 @@ use mctp::Error;
 use stamp::EventStamp;
 use state::Head;
 use state::Sizes;
-use tables::Check;
+use walks::Check;
 
 // How many milliseconds may pass until the next update, and whether something expired.
 pub enum Updated {

@@ -5,7 +5,7 @@ use Rattle.stamp.specs.Stamp.{next}
 use Rattle.flows.specs.Table.{counted}
 use Rattle.state.specs.Stack.{stackOf}
 use Rattle.state.proofs.StackLaws.{stays}
-use Rattle.tables.specs.Walks.{renow}
+use Rattle.walks.specs.Walks.{renow}
 use Rattle.state.proofs.Steps.{becomes-as}
 use denote.Ref.{now}
 use mathlib.Core.Path.{_≡_, sym, ap, _∙_}

@@ -11,10 +11,10 @@ use Rattle.flows.specs.Table.{isFree, newFlow, counted}
 use Rattle.flows.proofs.TableLaws.{new-ok, counted-clock, counted-counter}
 use Rattle.state.specs.Stack.{Stack, reflow}
 use Rattle.state.proofs.StackLaws.{flows-length, head-ok, andThen}
-use Rattle.tables.specs.Walks.{renow}
+use Rattle.walks.specs.Walks.{renow}
 use Rattle.flow_walks.specs.FlowWalks.{tableOf}
 use Rattle.state.proofs.Steps.{becomes-as}
-use Rattle.tables.proofs.Cookies.{cookie-fits}
+use Rattle.walks.proofs.Cookies.{cookie-fits}
 use Rattle.flow_walks.proofs.FlowSends.{sent-as, insert-room, insert-full}
 use lib.ListN.{length}
 use mathlib.Core.Path.{refl, sym, ap, subst, _∙_}

@@ -7,7 +7,7 @@ use Rattle.flows.specs.Table.{noFlow, flowPlace}
 use Rattle.flows.proofs.TableLaws.{no-flow-ok}
 use Rattle.state.specs.Stack.{reflow}
 use Rattle.state.proofs.StackLaws.{flows-length, stays}
-use Rattle.tables.specs.Walks.{reflows}
+use Rattle.walks.specs.Walks.{reflows}
 use Rattle.state.proofs.Steps.{becomes-as}
 use lib.ListN.{length}
 use lib.Seq.{set-out}

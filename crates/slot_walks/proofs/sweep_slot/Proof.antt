@@ -5,7 +5,7 @@ use Rattle.reassemble.specs.declared.Reassembler.{Reassembler}
 use Rattle.reassemble.specs.Slot.{isReply, handleTaken}
 use Rattle.state.specs.Slot.{SlotOk}
 use Rattle.state.specs.Stack.{stackOf, slotAt}
-use Rattle.tables.proofs.PartLoops.{slotPart, stored-as, same-stored}
+use Rattle.walks.proofs.PartLoops.{slotPart, stored-as, same-stored}
 use Rattle.slot_walks.proofs.SlotChecks.{blank-ok, sweptSlot, stops, frees, passes}
 use borrow.Author.Needs.{needs}
 use Rattle.slot_walks.proofs.sweep_slot.Statement.{statement}

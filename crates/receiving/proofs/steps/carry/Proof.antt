@@ -8,7 +8,7 @@ use borrow.Author.Needs.{needs}
 use Rattle.state.specs.Slot.{progress}
 use Rattle.state.specs.Stack.{Stack, stackOf, slotAt, reslot}
 use Rattle.state.proofs.StackLaws.{andThen}
-use Rattle.tables.specs.Walks.{ticked}
+use Rattle.walks.specs.Walks.{ticked}
 use Rattle.receiving.specs.declared.Received.the-variants.{More}
 use Rattle.receiving.proofs.Entered.{in-pool, copied}
 use Rattle.receiving.proofs.Receipts.{makes-as}

@@ -7,7 +7,7 @@ use Rattle.octets.specs.Pick.{pick-true, pick-false}
 use Rattle.flows.specs.declared.Flow.{Flow}
 use Rattle.state.specs.Stack.{stackOf}
 use Rattle.state.proofs.StackLaws.{stays}
-use Rattle.tables.specs.Walks.{reflows}
+use Rattle.walks.specs.Walks.{reflows}
 use Rattle.state.proofs.Steps.{becomes-as}
 use Rattle.receiving.proofs.steps.close.Statement.{statement}
 use Rattle.receiving.proofs.steps.close.Tie as tie

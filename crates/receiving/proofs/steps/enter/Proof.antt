@@ -7,7 +7,7 @@ use Rattle.reassemble.specs.declared.Entry.{Entry}
 use Rattle.state.specs.Slot.{SlotOk}
 use Rattle.state.specs.Stack.{Stack, stackOf}
 use Rattle.state.proofs.StackLaws.{head-ok}
-use Rattle.tables.specs.Walks.{ticked}
+use Rattle.walks.specs.Walks.{ticked}
 use Rattle.receiving.specs.Receive.{nextIssue, settled}
 use Rattle.receiving.proofs.Entered.{entered-ok, ticked-ok, issue-fits}
 use Rattle.receiving.proofs.Receipts.{makes-as, makes-then, lands}

@@ -5,7 +5,7 @@ ghost use mathlib.Core.Path.{_≡_};
 ghost use mathlib.Core.List.{_∷_, []};
 ghost use Rattle.stamp.specs.Stamp.{next};
 ghost use Rattle.state.specs.Stack.{Kept, Becomes, stackOf};
-ghost use Rattle.tables.specs.Walks.{ticked, checkOf};
+ghost use Rattle.walks.specs.Walks.{ticked, checkOf};
 use stamp::EventStamp;
 use stamp::Timeout;
 use state::Sizes;

@@ -19,8 +19,8 @@ use Rattle.state.specs.declared.Sizes.{Sizes}
 use Rattle.state.specs.Layout.{size, flowCount}
 use Rattle.state.specs.Stack.{Stack, stackOf, Kept, Becomes}
 use Rattle.state.proofs.StackLaws.{slots-length, flows-length, stays, determined}
-use Rattle.tables.specs.declared.Check.{Check}
-use Rattle.tables.specs.Walks.{reslots, reflows, leastLeft, anyExpired, checkOf}
+use Rattle.walks.specs.declared.Check.{Check}
+use Rattle.walks.specs.Walks.{reslots, reflows, leastLeft, anyExpired, checkOf}
 
 -- a store keeps the length of the bytes
 pub becomes-length : (z : Sizes) (b x : List ℕ) (st : Stack) → Kept z b → Becomes z b x st → length x ≡ length b

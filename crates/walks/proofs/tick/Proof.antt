@@ -10,9 +10,9 @@ use Rattle.stamp.specs.Stamp.{next}
 use Rattle.state.specs.declared.Sizes.{Sizes}
 use Rattle.state.specs.Head.{renowed, recounted}
 use Rattle.state.specs.Stack.{Becomes, stackOf, rehead}
-use Rattle.tables.specs.Walks.{ticked}
-use Rattle.tables.proofs.tick.Statement.{statement}
-use Rattle.tables.proofs.tick.Tie as tie
+use Rattle.walks.specs.Walks.{ticked}
+use Rattle.walks.proofs.tick.Statement.{statement}
+use Rattle.walks.proofs.tick.Tie as tie
 
 counted : (s : EventStamp) → _≡_ {A = EventStamp} (record { clock = s .clock; counter = next s .counter }) (next s)
 unfolding next

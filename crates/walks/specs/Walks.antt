@@ -14,7 +14,7 @@ use Rattle.reassemble.specs.declared.Reassembler.{Reassembler}
 use Rattle.reassemble.specs.Slot.{slotTimeout}
 use Rattle.state.specs.Head.{renowed}
 use Rattle.state.specs.Stack.{Stack, rehead}
-use Rattle.tables.specs.declared.Check.{Check}
+use Rattle.walks.specs.declared.Check.{Check}
 
 -- the stack with another stamp of the last event
 abbrev pub renow : EventStamp → Stack → Stack

@@ -2,9 +2,9 @@
 use mathlib.Core.Path.{sym, _∙_}
 use borrow.Author.Needs.{needs}
 use Rattle.octets.proofs.Tests.{picks}
-use Rattle.tables.specs.Walks.{leastLeft, anyExpired}
-use Rattle.tables.proofs.Check.noted.Statement.{statement}
-use Rattle.tables.proofs.Check.noted.Tie as tie
+use Rattle.walks.specs.Walks.{leastLeft, anyExpired}
+use Rattle.walks.proofs.Check.noted.Statement.{statement}
+use Rattle.walks.proofs.Check.noted.Tie as tie
 
 sooner-requires : tie.Need-sooner-requires
 sooner-requires c κs = search needs
