@@ -1,6 +1,6 @@
 -- What a call answers in numbers: 0 or the refusal's number.
 -- And what it leaves in the row that it is lent: a refusal leaves it as it was.
--- Leans on the answers of `sending`, `fragment`, `updating`, `receiving` and `handling`, and on the rows of `words`.
+-- Leans on the answers of `sending`, `fragment`, `updating`, `concluding` and `handling`, and on the rows of `words`.
 use Prim.Native.Nat.{ℕ}
 use mathlib.Core.List.{List, [], _∷_}
 use Rattle.mctp.specs.Terms.{errorNo}
@@ -9,8 +9,8 @@ use Rattle.fragment.specs.declared.SendOutput.{SendOutput}
 use Rattle.fragment.specs.declared.SendOutput.the-variants.{Packet, Complete, Error as Failed}
 use Rattle.fragment.specs.declared.Started.{Started}
 use Rattle.fragment.specs.declared.Started.the-variants.{Sends, Refused as Unstarted}
-use Rattle.receiving.specs.declared.Received.{Received}
-use Rattle.receiving.specs.declared.Received.the-variants.{More, Message as Whole, Refused as Unreceived}
+use Rattle.concluding.specs.declared.Received.{Received}
+use Rattle.concluding.specs.declared.Received.the-variants.{More, Message as Whole, Refused as Unreceived}
 use Rattle.handling.specs.declared.Done.{Done}
 use Rattle.handling.specs.declared.Done.the-variants.{Done as Well, Refused}
 use Rattle.updating.specs.declared.Updated.{Updated}

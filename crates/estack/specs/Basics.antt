@@ -17,7 +17,7 @@ use Rattle.mctp.specs.declared.Error.the-variants.{InvalidInput, NoSpace, BadAr
 use Rattle.mctp.specs.Terms.{normalEid}
 use Rattle.flows.specs.Table.{noFlow, removed, usedTags}
 use Rattle.flows.specs.Tags.{freeCount}
-use Rattle.reassemble.specs.Slot.{blankSlot}
+use Rattle.slot.specs.Slot.{blankSlot}
 use Rattle.reassemble.specs.Enter.{localPacket}
 use Rattle.state.specs.declared.Sizes.{Sizes}
 use Rattle.state.specs.declared.Head.{Head}

@@ -11,21 +11,21 @@ use Rattle.octets.specs.Pick.{pick}
 use Rattle.mctp.specs.declared.Cookie.{Cookie}
 use Rattle.mctp.specs.declared.Error.the-variants.{BadArgument}
 use Rattle.mctp.specs.Terms.{cookieValue}
-use Rattle.reassemble.specs.declared.State.{State}
-use Rattle.reassemble.specs.declared.State.the-variants.{HandleOut}
-use Rattle.reassemble.specs.declared.Reassembler.{Reassembler}
-use Rattle.reassemble.specs.Slot.{restated, recookied}
+use Rattle.slot.specs.declared.State.{State}
+use Rattle.slot.specs.declared.State.the-variants.{HandleOut}
+use Rattle.slot.specs.declared.Reassembler.{Reassembler}
+use Rattle.slot.specs.Slot.{restated, recookied}
 use Rattle.state.specs.declared.Sizes.{Sizes}
 use Rattle.state.specs.Slot.{SlotOk, issueNo}
 use Rattle.state.specs.Head.{reissued}
 use Rattle.state.specs.Stack.{Stack, Kept, Becomes, stackOf, slotAt, reslot, rehead}
 use Rattle.state.proofs.StackLaws.{slots-length, stays, andThen}
-use Rattle.receiving.specs.declared.ReceiveHandle.{ReceiveHandle}
+use Rattle.concluding.specs.declared.ReceiveHandle.{ReceiveHandle}
 use Rattle.handling.specs.declared.Done.{Done}
 use Rattle.handling.specs.declared.Done.the-variants.{Done as Well, Refused}
 use Rattle.handling.specs.declared.Deferred.{Deferred}
 use Rattle.handling.specs.declared.Deferred.the-variants.{Found, Nothing}
-use Rattle.receiving.specs.Receive.{nextIssue}
+use Rattle.concluding.specs.Conclude.{nextIssue}
 use Rattle.handling.specs.Handles.{isGood, handled, takeOf}
 
 first-of : (b x : Bool) → pick b x false ≡ true → b ≡ true

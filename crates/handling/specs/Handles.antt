@@ -1,6 +1,6 @@
 -- Document 01, "Handles", fetch, finish, return, set cookie, and the deferred lookups.
 -- A handle is an index and an issue number.
--- Leans on `reassemble` for a slot's part, on `receiving` for the count of handles.
+-- Leans on `reassemble` for a slot's part, on `concluding` for the count of handles.
 use Prim.Native.Nat.{ℕ, _+_, _*_}
 use mathlib.Core.Bool.{Bool, true, false}
 use mathlib.Core.List.{List}
@@ -12,13 +12,13 @@ use Rattle.mctp.specs.declared.Tag.{Tag}
 use Rattle.mctp.specs.declared.Cookie.{Cookie}
 use Rattle.mctp.specs.declared.Error.the-variants.{BadArgument, PoolShort}
 use Rattle.mctp.specs.Terms.{tagOf, isOwner}
-use Rattle.reassemble.specs.declared.State.the-variants.{Done as Kept, HandleOut}
-use Rattle.reassemble.specs.declared.Reassembler.{Reassembler}
-use Rattle.reassemble.specs.Slot.{blankSlot, handleIs, keptUnder, listed, restated, recookied}
-use Rattle.reassemble.specs.Search.{earliest}
+use Rattle.slot.specs.declared.State.the-variants.{Done as Kept, HandleOut}
+use Rattle.slot.specs.declared.Reassembler.{Reassembler}
+use Rattle.slot.specs.Slot.{blankSlot, handleIs, keptUnder, listed, restated, recookied}
+use Rattle.slot.specs.Search.{earliest}
 use Rattle.state.specs.Head.{reissued}
 use Rattle.state.specs.Stack.{Stack, slotAt, reslot}
-use Rattle.receiving.specs.declared.ReceiveHandle.{ReceiveHandle}
+use Rattle.concluding.specs.declared.ReceiveHandle.{ReceiveHandle}
 use Rattle.handling.specs.declared.Done.{Done}
 use Rattle.handling.specs.declared.Done.the-variants.{Done as Well, Refused}
 use Rattle.handling.specs.declared.Message.{Message}
@@ -26,7 +26,7 @@ use Rattle.handling.specs.declared.Fetched.{Fetched}
 use Rattle.handling.specs.declared.Fetched.the-variants.{Message as Fetch, Refused as Unfetched}
 use Rattle.handling.specs.declared.Deferred.{Deferred}
 use Rattle.handling.specs.declared.Deferred.the-variants.{Found, Nothing}
-use Rattle.receiving.specs.Receive.{nextIssue}
+use Rattle.concluding.specs.Conclude.{nextIssue}
 
 -- index past the slots, slot not done, handle not out or another number: the handle is no good
 unfoldable pub isGood : ReceiveHandle → Stack → Bool

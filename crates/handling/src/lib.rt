@@ -1,12 +1,13 @@
 // Handling: fetch, finish, return and set cookie under a handle, and the deferred lookups that give one out; after the Rust's `Stack` in src/lib.rs.
 // Definitions: specs/Handles.antt.
-// Leans on `slot_walks` for the search of the earliest message, on `receiving` for the count of handles.
+// Leans on `slot_walks` for the search of the earliest message, on `concluding` for the count of handles.
 ghost use mathlib.Core.Path.{_≡_};
 ghost use Prim.Native.Nat.{_+_, _≤_, _<_};
 ghost use lib.ListN.{length};
 ghost use Rattle.state.specs.Slot.{SlotOk};
 ghost use Rattle.state.specs.Stack.{Kept, Becomes, stackOf};
 ghost use Rattle.handling.specs.Handles.{isGood, handled, finishOf, returnOf, cookieOf, fetchOf, takeOf, bySourceOf, byCookieOf};
+use concluding::ReceiveHandle;
 use mctp::Cookie;
 use mctp::Eid;
 use mctp::Error;
@@ -14,8 +15,7 @@ use mctp::Key;
 use mctp::MsgIC;
 use mctp::MsgType;
 use mctp::Tag;
-use reassemble::Reassembler;
-use receiving::ReceiveHandle;
+use slot::Reassembler;
 use state::Sizes;
 
 // A call that has nothing to tell but a refusal.
@@ -104,7 +104,7 @@ pub fn finished_receive(state: &mut [u8], sizes: Sizes, handle: ReceiveHandle) -
     requires { ⌜ Kept sizes (now state) ⌝ }
     ensures { λ r. ⌜ (r ≡ finishOf handle (stackOf sizes (now (state .entry))) .said) × Becomes sizes (now (state .entry)) (now (state .exit)) (finishOf handle (stackOf sizes (now (state .entry))) .stack) ⌝ }
 {
-    keep(state, sizes, handle, reassemble::blank())
+    keep(state, sizes, handle, slot::blank())
 }
 
 // The handle comes back, and the message is kept.
@@ -133,7 +133,7 @@ fn take(state: &mut [u8], sizes: Sizes, i: usize) -> Deferred
     ensures { λ r. ⌜ (r ≡ takeOf i (stackOf sizes (now (state .entry))) .said) × Becomes sizes (now (state .entry)) (now (state .exit)) (takeOf i (stackOf sizes (now (state .entry))) .stack) ⌝ }
 {
     if i < sizes.slots {
-        let issue = receiving::next_issue(state::issue_at(state, sizes));
+        let issue = concluding::next_issue(state::issue_at(state, sizes));
         let s = state::slot_at(state, sizes, i);
         state::put_slot(state, sizes, i, s.take_handle(issue));
         state::put_issue(state, sizes, issue);

@@ -19,19 +19,20 @@ use Rattle.mctp.specs.declared.HeaderRead.the-variants.{Good}
 use Rattle.mctp.specs.Header.{headerOf, lead}
 use Rattle.stamp.specs.declared.EventStamp.{EventStamp}
 use Rattle.stamp.specs.Stamp.{next}
-use Rattle.reassemble.specs.declared.State.the-variants.{Collecting}
-use Rattle.reassemble.specs.declared.Reassembler.{Reassembler}
+use Rattle.slot.specs.declared.State.the-variants.{Collecting}
+use Rattle.slot.specs.declared.Reassembler.{Reassembler}
 use Rattle.reassemble.specs.declared.Gate.the-variants.{Pass}
 use Rattle.reassemble.specs.declared.Entry.{Entry}
-use Rattle.reassemble.specs.Slot.{blankSlot, isEmpty, collects}
-use Rattle.reassemble.specs.Search.{slotFor}
+use Rattle.slot.specs.Slot.{blankSlot, isEmpty, collects}
+use Rattle.slot.specs.Search.{slotFor}
 use Rattle.reassemble.specs.Enter.{enter, append, appended, outcomeOf}
 use Rattle.fragment.specs.Cutting.{bodyIn, saysSom}
 use Rattle.state.specs.Stack.{Stack, slotAt}
 use Rattle.walks.specs.Walks.{ticked}
-use Rattle.receiving.specs.declared.ReceiveHandle.{ReceiveHandle}
-use Rattle.receiving.specs.declared.Received.the-variants.{More}
-use Rattle.receiving.specs.Receive.{Receipt, receivedAs, nextIssue, saidOf, settled, land, opening, gateOf, receiveAt, receiveBy, receiveOf}
+use Rattle.concluding.specs.declared.ReceiveHandle.{ReceiveHandle}
+use Rattle.concluding.specs.declared.Received.the-variants.{More}
+use Rattle.concluding.specs.Conclude.{nextIssue, saidOf}
+use Rattle.receiving.specs.Receive.{Receipt, receivedAs, settled, land, opening, gateOf, receiveAt, receiveBy, receiveOf}
 use Rattle.promises.specs.Calls.{World, receive, step, receipt}
 use Rattle.handling.specs.Handles.{messageIn}
 use Rattle.promises.specs.Delivery.{Hands}

@@ -17,10 +17,10 @@ use Rattle.mctp.specs.declared.MsgIC.{MsgIC}
 use Rattle.mctp.specs.declared.Cookie.{Cookie}
 use Rattle.mctp.specs.Header.{typeOf}
 use Rattle.flows.specs.Table.{standing, flowCookie}
-use Rattle.reassemble.specs.declared.Reassembler.{Reassembler}
+use Rattle.slot.specs.declared.Reassembler.{Reassembler}
 use Rattle.reassemble.specs.declared.Gate.the-variants.{Pass}
-use Rattle.reassemble.specs.Slot.{blankSlot, isEmpty, emptyState, collects}
-use Rattle.reassemble.specs.Search.{slotFor}
+use Rattle.slot.specs.Slot.{blankSlot, isEmpty, emptyState, collects}
+use Rattle.slot.specs.Search.{slotFor}
 use Rattle.reassemble.specs.Enter.{opened, gateEmpty, gate, enter, append}
 use Rattle.fragment.specs.Cutting.{PacketIs, bodyIn}
 use Rattle.state.specs.Stack.{slotAt}

@@ -25,8 +25,8 @@ use Rattle.flows.specs.Table.{Table, Flowed, usedTags, counted, insertFlow, tur
 use Rattle.flows.specs.Tags.{freeTagOf}
 use Rattle.reassemble.specs.declared.Gate.{Gate}
 use Rattle.reassemble.specs.declared.Gate.the-variants.{Shut, Pass}
-use Rattle.reassemble.specs.Slot.{isEmpty}
-use Rattle.reassemble.specs.Search.{slotFor}
+use Rattle.slot.specs.Slot.{isEmpty}
+use Rattle.slot.specs.Search.{slotFor}
 use Rattle.state.specs.Stack.{Stack, slotAt}
 use Rattle.flow_walks.specs.FlowWalks.{tableOf, retable}
 use Rattle.sending.specs.declared.Send.{Send}

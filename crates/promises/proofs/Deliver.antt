@@ -13,8 +13,8 @@ use Rattle.mctp.specs.declared.MsgType.{MsgType}
 use Rattle.mctp.specs.declared.MsgIC.{MsgIC}
 use Rattle.mctp.specs.declared.Cookie.{Cookie}
 use Rattle.mctp.specs.declared.Header.{Header}
-use Rattle.reassemble.specs.Slot.{blankSlot, collects}
-use Rattle.reassemble.specs.Search.{slotFor}
+use Rattle.slot.specs.Slot.{blankSlot, collects}
+use Rattle.slot.specs.Search.{slotFor}
 use Rattle.reassemble.specs.Enter.{gate, enter}
 use Rattle.fragment.specs.Cutting.{PacketIs, InTurn, bodyIn, joined}
 use Rattle.state.specs.Stack.{slotAt}

@@ -13,17 +13,18 @@ use Rattle.octets.specs.Bytes.{over}
 use Rattle.octets.proofs.Bools.{bool-cases}
 use Rattle.mctp.specs.declared.Error.{Error}
 use Rattle.mctp.specs.declared.Error.the-variants.{InvalidInput, NoSpace, BadArgument, TagUnavailable, Unreachable, PoolShort}
-use Rattle.reassemble.specs.declared.State.the-variants.{HandleOut}
+use Rattle.slot.specs.declared.State.the-variants.{HandleOut}
 use Rattle.mctp.specs.declared.Header.{Header}
-use Rattle.reassemble.specs.declared.Reassembler.{Reassembler}
-use Rattle.reassemble.specs.Slot.{blankSlot, issueIs}
+use Rattle.slot.specs.declared.Reassembler.{Reassembler}
+use Rattle.slot.specs.Slot.{blankSlot, issueIs}
 use Rattle.reassemble.specs.Enter.{appended, outcomeOf}
 use Rattle.fragment.specs.Cutting.{bodyIn}
 use Rattle.state.specs.Stack.{Stack, slotAt}
-use Rattle.receiving.specs.declared.ReceiveHandle.{ReceiveHandle}
-use Rattle.receiving.specs.declared.Received.{Received}
-use Rattle.receiving.specs.declared.Received.the-variants.{More, Message as Told, Refused}
-use Rattle.receiving.specs.Receive.{Receipt, receivedAs, saidOf, receiveOf}
+use Rattle.concluding.specs.declared.ReceiveHandle.{ReceiveHandle}
+use Rattle.concluding.specs.declared.Received.{Received}
+use Rattle.concluding.specs.declared.Received.the-variants.{More, Message as Told, Refused}
+use Rattle.concluding.specs.Conclude.{saidOf}
+use Rattle.receiving.specs.Receive.{Receipt, receivedAs, receiveOf}
 use Rattle.handling.specs.declared.Fetched.the-variants.{Message as Fetch}
 use Rattle.handling.specs.Handles.{isGood, messageIn, fetchOf}
 use Rattle.promises.specs.Calls.{World, receive, step, receipt}

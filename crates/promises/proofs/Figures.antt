@@ -9,13 +9,14 @@ use Rattle.mctp.specs.Header.{headerOf}
 use Rattle.stamp.specs.Stamp.{next, clocked, expired, timeoutOf}
 use Rattle.flows.specs.Tags.{bitsOf, freeTagOf}
 use Rattle.flows.specs.Table.{isFlow, newFlow, insertFlow, withTag, freshFlow, setFlow, fadedFlow}
-use Rattle.reassemble.specs.Slot.{fadedSlot}
-use Rattle.reassemble.specs.Search.{slotFor}
+use Rattle.slot.specs.Slot.{fadedSlot}
+use Rattle.slot.specs.Search.{slotFor}
 use Rattle.reassemble.specs.Enter.{isLocal, opening, gate, gateEmpty, enter, append}
 use Rattle.fragment.specs.Step.{newOf, stepOf}
 use Rattle.fragment.specs.Run.{written}
 use Rattle.walks.specs.Walks.{leastLeft, anyExpired}
-use Rattle.receiving.specs.Receive.{nextIssue, land, receiveAt, receiveBy, receiveOf}
+use Rattle.concluding.specs.Conclude.{nextIssue}
+use Rattle.receiving.specs.Receive.{land, receiveAt, receiveBy, receiveOf}
 use Rattle.sending.specs.Sends.{granted, ownedSend, tagSend, startSendOf}
 use Rattle.updating.specs.Update.{checked, updateOf}
 use Rattle.promises.specs.Calls.{step}

@@ -17,8 +17,8 @@ use Rattle.mctp.specs.declared.Header.{Header}
 use Rattle.mctp.specs.declared.HeaderRead.the-variants.{Good}
 use Rattle.mctp.specs.Terms.{sameKey}
 use Rattle.mctp.specs.Header.{headerOf}
-use Rattle.reassemble.specs.declared.Reassembler.{Reassembler}
-use Rattle.reassemble.specs.Slot.{blankSlot, isEmpty, emptyState, collects}
+use Rattle.slot.specs.declared.Reassembler.{Reassembler}
+use Rattle.slot.specs.Slot.{blankSlot, isEmpty, emptyState, collects}
 use Rattle.reassemble.specs.Enter.{appended}
 use Rattle.fragment.specs.Cutting.{bodyIn}
 use Rattle.state.specs.Stack.{Stack, slotAt}

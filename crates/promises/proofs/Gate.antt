@@ -16,12 +16,12 @@ use Rattle.mctp.specs.declared.HeaderRead.the-variants.{Good, Bad}
 use Rattle.mctp.specs.declared.Cookie.{Cookie}
 use Rattle.mctp.specs.declared.Cookie.the-variants.{Absent}
 use Rattle.flows.specs.Table.{standing, flowCookie}
-use Rattle.reassemble.specs.declared.State.the-variants.{Collecting}
-use Rattle.reassemble.specs.declared.Reassembler.{Reassembler}
+use Rattle.slot.specs.declared.State.the-variants.{Collecting}
+use Rattle.slot.specs.declared.Reassembler.{Reassembler}
 use Rattle.reassemble.specs.declared.Gate.{Gate}
 use Rattle.reassemble.specs.declared.Gate.the-variants.{Shut, Pass}
-use Rattle.reassemble.specs.Slot.{blankSlot, isEmpty, emptyState, collects}
-use Rattle.reassemble.specs.Search.{slotFor}
+use Rattle.slot.specs.Slot.{blankSlot, isEmpty, emptyState, collects}
+use Rattle.slot.specs.Search.{slotFor}
 use Rattle.reassemble.specs.Enter.{opening as admits, opened, gate, gateEmpty, gateReply}
 use Rattle.state.specs.Stack.{Stack, slotAt}
 use Rattle.receiving.specs.Receive.{gateOf}

@@ -17,7 +17,7 @@ use Rattle.mctp.specs.declared.Cookie.the-variants.{Absent}
 use Rattle.mctp.specs.Header.{typeOf}
 use Rattle.flows.specs.Table.{standing, flowCookie}
 use Rattle.reassemble.specs.declared.Gate.the-variants.{Pass}
-use Rattle.reassemble.specs.Slot.{collects}
+use Rattle.slot.specs.Slot.{collects}
 use Rattle.reassemble.specs.Enter.{opening, opened, gateReply, gateEmpty}
 use Rattle.fragment.specs.Cutting.{PacketIs, InTurn, bodyIn, joined, kindIn}
 use Rattle.state.specs.Stack.{slotAt}

@@ -18,15 +18,16 @@ use Rattle.mctp.specs.Header.{headerOf}
 use Rattle.stamp.specs.Stamp.{next, clocked, expired, timeoutOf}
 use Rattle.flows.specs.Tags.{bitsOf, freeTagOf}
 use Rattle.flows.specs.Table.{standing, isFlow, newFlow, insertFlow, withTag, freshFlow, setFlow, fadedFlow}
-use Rattle.reassemble.specs.Slot.{fadedSlot}
-use Rattle.reassemble.specs.Search.{slotFor}
+use Rattle.slot.specs.Slot.{fadedSlot}
+use Rattle.slot.specs.Search.{slotFor}
 use Rattle.reassemble.specs.Enter.{isLocal, opening, gate, gateEmpty, gateReply, enter, append}
 use Rattle.walks.specs.Walks.{leastLeft}
 use Rattle.fragment.specs.Cutting.{InTurn, joined, kindIn, Carries}
 use Rattle.sending.specs.declared.Send.{Send}
 use Rattle.sending.specs.declared.SendTag.the-variants.{Fresh}
 use Rattle.sending.specs.declared.SendMtu.the-variants.{Own}
-use Rattle.receiving.specs.Receive.{receivedAs, nextIssue, land, receiveAt, receiveBy, receiveOf}
+use Rattle.concluding.specs.Conclude.{nextIssue}
+use Rattle.receiving.specs.Receive.{receivedAs, land, receiveAt, receiveBy, receiveOf}
 use Rattle.sending.specs.Sends.{granted, ownedSend, tagSend, startSendOf}
 use Rattle.updating.specs.Update.{checked, updateOf}
 use Rattle.estack.specs.Basics.{freshStack}

@@ -14,18 +14,19 @@ use Rattle.mctp.specs.declared.Error.{Error}
 use Rattle.mctp.specs.Header.{headerOf, lead, typeOf}
 use Rattle.stamp.specs.declared.EventStamp.{EventStamp}
 use Rattle.stamp.specs.Stamp.{next}
-use Rattle.reassemble.specs.declared.State.the-variants.{Collecting}
-use Rattle.reassemble.specs.declared.Reassembler.{Reassembler}
+use Rattle.slot.specs.declared.State.the-variants.{Collecting}
+use Rattle.slot.specs.declared.Reassembler.{Reassembler}
 use Rattle.reassemble.specs.declared.Gate.{Gate}
 use Rattle.reassemble.specs.declared.Gate.the-variants.{Shut, Pass}
 use Rattle.reassemble.specs.declared.Entry.{Entry}
-use Rattle.reassemble.specs.Slot.{blankSlot, isEmpty}
-use Rattle.reassemble.specs.Search.{slotFor}
+use Rattle.slot.specs.Slot.{blankSlot, isEmpty}
+use Rattle.slot.specs.Search.{slotFor}
 use Rattle.reassemble.specs.Enter.{enter, append, appended, begun, freed, outcomeOf}
 use Rattle.fragment.specs.Cutting.{bodyIn, saysSom}
 use Rattle.state.specs.Stack.{Stack, slotAt}
 use Rattle.walks.specs.Walks.{ticked}
-use Rattle.receiving.specs.Receive.{Receipt, nextIssue, saidOf, settled, land, opening, gateOf, receiveAt, receiveBy, receiveOf}
+use Rattle.concluding.specs.Conclude.{nextIssue, saidOf}
+use Rattle.receiving.specs.Receive.{Receipt, settled, land, opening, gateOf, receiveAt, receiveBy, receiveOf}
 use Rattle.promises.specs.Delivery.{cookieFor}
 use Rattle.promises.specs.History.{takes}
 use Rattle.promises.proofs.Facts.{no-both}

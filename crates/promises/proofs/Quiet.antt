@@ -16,10 +16,10 @@ use Rattle.mctp.specs.declared.Key.{Key}
 use Rattle.mctp.specs.Terms.{sameBool, normalEid}
 use Rattle.stamp.specs.declared.EventStamp.{EventStamp}
 use Rattle.stamp.specs.Stamp.{expired, timeoutOf, isExpired}
-use Rattle.reassemble.specs.declared.State.{State}
-use Rattle.reassemble.specs.declared.State.the-variants.{Done}
-use Rattle.reassemble.specs.declared.Reassembler.{Reassembler}
-use Rattle.reassemble.specs.Slot.{blankSlot, collects, outState, doneState, handleTaken, isDone, isReply, keptUnder, listed, timeIn, slotTime, slotTimeout, restated, recookied}
+use Rattle.slot.specs.declared.State.{State}
+use Rattle.slot.specs.declared.State.the-variants.{Done}
+use Rattle.slot.specs.declared.Reassembler.{Reassembler}
+use Rattle.slot.specs.Slot.{blankSlot, collects, outState, doneState, handleTaken, isDone, isReply, keptUnder, listed, timeIn, slotTime, slotTimeout, restated, recookied}
 use Rattle.state.specs.Stack.{Stack}
 use Rattle.sending.specs.Sends.{startSendOf}
 use Rattle.estack.specs.Basics.{eidSet}

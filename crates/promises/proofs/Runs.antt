@@ -9,11 +9,12 @@ use Rattle.octets.specs.Bytes.{over}
 use Rattle.octets.proofs.Part.{over-nil}
 use Rattle.mctp.specs.declared.Key.{Key}
 use Rattle.mctp.specs.declared.Header.{Header}
-use Rattle.reassemble.specs.declared.Reassembler.{Reassembler}
-use Rattle.reassemble.specs.Slot.{blankSlot, isEmpty, emptyState, collects}
+use Rattle.slot.specs.declared.Reassembler.{Reassembler}
+use Rattle.slot.specs.Slot.{blankSlot, isEmpty, emptyState, collects}
 use Rattle.reassemble.specs.Enter.{outcomeOf}
 use Rattle.state.specs.Stack.{slotAt}
-use Rattle.receiving.specs.Receive.{Receipt, saidOf, receiveOf}
+use Rattle.concluding.specs.Conclude.{saidOf}
+use Rattle.receiving.specs.Receive.{Receipt, receiveOf}
 use Rattle.promises.specs.Calls.{World, Call, step, steps}
 use Rattle.promises.specs.Delivery.{allOf}
 use Rattle.promises.specs.History.{Taken, takes, noted, logged, history}

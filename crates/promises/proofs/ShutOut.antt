@@ -21,19 +21,20 @@ use Rattle.mctp.specs.Header.{headerOf, lead}
 use Rattle.stamp.specs.declared.EventStamp.{EventStamp}
 use Rattle.stamp.specs.declared.Timeout.the-variants.{Left}
 use Rattle.flows.specs.Table.{noFlow, standing, flowTimeout}
-use Rattle.reassemble.specs.declared.State.{State}
-use Rattle.reassemble.specs.declared.State.the-variants.{Empty, Collecting, Done, HandleOut}
-use Rattle.reassemble.specs.declared.Reassembler.{Reassembler}
-use Rattle.reassemble.specs.Slot.{blankSlot, emptyState, outState, slotTimeout}
+use Rattle.slot.specs.declared.State.{State}
+use Rattle.slot.specs.declared.State.the-variants.{Empty, Collecting, Done, HandleOut}
+use Rattle.slot.specs.declared.Reassembler.{Reassembler}
+use Rattle.slot.specs.Slot.{blankSlot, emptyState, outState, slotTimeout}
 use Rattle.reassemble.specs.Enter.{appended, outcomeOf}
 use Rattle.fragment.specs.declared.Fragmenter.{Fragmenter}
 use Rattle.fragment.specs.Cutting.{bodyIn}
 use Rattle.fragment.specs.Step.{Step, packetOf, emitted, stepOf}
 use Rattle.state.specs.Stack.{Stack, slotAt, flowAt}
-use Rattle.receiving.specs.declared.ReceiveHandle.{ReceiveHandle}
-use Rattle.receiving.specs.declared.Received.the-variants.{Message as Told}
+use Rattle.concluding.specs.declared.ReceiveHandle.{ReceiveHandle}
+use Rattle.concluding.specs.declared.Received.the-variants.{Message as Told}
 use Rattle.updating.specs.declared.Updated.the-variants.{Next, Refused}
-use Rattle.receiving.specs.Receive.{Receipt, saidOf, receiveOf}
+use Rattle.concluding.specs.Conclude.{saidOf}
+use Rattle.receiving.specs.Receive.{Receipt, receiveOf}
 use Rattle.walks.specs.Walks.{leastLeft, slotTimes}
 use Rattle.updating.specs.Update.{Update, interval, leastOf, checked, updateOf}
 use Rattle.estack.specs.Basics.{freeTagsOf}

@@ -14,12 +14,12 @@ pub use Rattle.octets.proofs.Each.{getD-mapped}
 use Rattle.mctp.specs.declared.Key.{Key}
 use Rattle.mctp.specs.Terms.{sameKey}
 use Rattle.stamp.specs.declared.EventStamp.{EventStamp}
-use Rattle.reassemble.specs.declared.State.{State}
-use Rattle.reassemble.specs.declared.State.the-variants.{Empty, Collecting, Done, HandleOut}
-use Rattle.reassemble.specs.declared.Reassembler.{Reassembler}
-use Rattle.reassemble.specs.Slot.{collectsIn, collects, collectingState}
+use Rattle.slot.specs.declared.State.{State}
+use Rattle.slot.specs.declared.State.the-variants.{Empty, Collecting, Done, HandleOut}
+use Rattle.slot.specs.declared.Reassembler.{Reassembler}
+use Rattle.slot.specs.Slot.{collectsIn, collects, collectingState}
 use Rattle.reassemble.specs.Enter.{appended}
-pub use Rattle.reassemble.proofs.States.{collects-key}
+pub use Rattle.slot.proofs.States.{collects-key}
 use Rattle.promises.proofs.Facts.{no-both, no-true}
 
 -- ---- one slot

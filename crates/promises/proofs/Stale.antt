@@ -32,16 +32,16 @@ use Rattle.flows.specs.declared.Wish.the-variants.{Fresh as AnyTag, Fixed}
 use Rattle.flows.specs.declared.Granted.{Granted}
 use Rattle.flows.specs.declared.Granted.the-variants.{Tag as Grant, Refused as Ungranted}
 use Rattle.flows.specs.Table.{setFlow}
-use Rattle.reassemble.specs.declared.State.{State}
-use Rattle.reassemble.specs.declared.State.the-variants.{Empty, Collecting, Done, HandleOut}
-use Rattle.reassemble.specs.declared.Reassembler.{Reassembler}
+use Rattle.slot.specs.declared.State.{State}
+use Rattle.slot.specs.declared.State.the-variants.{Empty, Collecting, Done, HandleOut}
+use Rattle.slot.specs.declared.Reassembler.{Reassembler}
 use Rattle.reassemble.specs.declared.Outcome as entered
 use Rattle.reassemble.specs.declared.Outcome.the-variants.{More as Going, Whole, Freed}
 use Rattle.reassemble.specs.declared.Entry.{Entry}
 use Rattle.reassemble.specs.declared.Gate.{Gate}
 use Rattle.reassemble.specs.declared.Gate.the-variants.{Shut, Pass}
-use Rattle.reassemble.specs.Slot.{blankSlot, outState, issueIs, handleIs, keptUnder, listed, fadedSlot, restated, recookied}
-use Rattle.reassemble.specs.Search.{slotFor, earliest}
+use Rattle.slot.specs.Slot.{blankSlot, outState, issueIs, handleIs, keptUnder, listed, fadedSlot, restated, recookied}
+use Rattle.slot.specs.Search.{slotFor, earliest}
 use Rattle.reassemble.specs.Enter.{enter, appended, outcomeOf}
 use Rattle.fragment.specs.Cutting.{bodyIn}
 use Rattle.stamp.specs.Stamp.{next, clocked}
@@ -49,9 +49,10 @@ use Rattle.state.specs.Stack.{Stack, slotAt, reslot}
 use Rattle.slot_walks.specs.SlotWalks.{swept}
 use Rattle.walks.specs.Walks.{ticked, renow}
 use Rattle.flow_walks.specs.FlowWalks.{tableOf, retable}
-use Rattle.receiving.specs.declared.ReceiveHandle.{ReceiveHandle}
-use Rattle.receiving.specs.declared.Received.the-variants.{Message as Told}
-use Rattle.receiving.specs.Receive.{Receipt, refuse, nextIssue, saidOf, issueAfter, settled, land, gateOf, receiveAt, receiveBy, receiveOf}
+use Rattle.concluding.specs.declared.ReceiveHandle.{ReceiveHandle}
+use Rattle.concluding.specs.declared.Received.the-variants.{Message as Told}
+use Rattle.concluding.specs.Conclude.{nextIssue, saidOf, issueAfter}
+use Rattle.receiving.specs.Receive.{Receipt, refuse, settled, land, gateOf, receiveAt, receiveBy, receiveOf}
 use Rattle.sending.specs.declared.Send.{Send}
 use Rattle.sending.specs.declared.SendTag.{SendTag}
 use Rattle.sending.specs.declared.SendTag.the-variants.{Fresh, Given}

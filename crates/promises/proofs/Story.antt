@@ -13,8 +13,8 @@ use Rattle.mctp.specs.declared.Key.{Key}
 use Rattle.mctp.specs.declared.Cookie.{Cookie}
 use Rattle.mctp.specs.declared.Header.{Header}
 use Rattle.stamp.specs.declared.EventStamp.{EventStamp}
-use Rattle.reassemble.specs.declared.Reassembler.{Reassembler}
-use Rattle.reassemble.specs.Slot.{blankSlot, collects}
+use Rattle.slot.specs.declared.Reassembler.{Reassembler}
+use Rattle.slot.specs.Slot.{blankSlot, collects}
 use Rattle.reassemble.specs.Enter.{appended}
 use Rattle.fragment.specs.Cutting.{bodyIn}
 use Rattle.state.specs.Stack.{Stack, slotAt}

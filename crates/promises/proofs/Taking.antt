@@ -13,9 +13,9 @@ use Rattle.octets.specs.Bytes.{over}
 use Rattle.mctp.specs.declared.Key.{Key}
 use Rattle.mctp.specs.declared.Header.{Header}
 use Rattle.mctp.specs.Terms.{sameKey}
-use Rattle.reassemble.specs.declared.State.{State}
-use Rattle.reassemble.specs.declared.Reassembler.{Reassembler}
-use Rattle.reassemble.specs.Slot.{blankSlot, collects, collectsIn}
+use Rattle.slot.specs.declared.State.{State}
+use Rattle.slot.specs.declared.Reassembler.{Reassembler}
+use Rattle.slot.specs.Slot.{blankSlot, collects, collectsIn}
 use Rattle.reassemble.specs.Enter.{appended}
 use Rattle.fragment.specs.Cutting.{bodyIn}
 use Rattle.state.specs.Stack.{slotAt}

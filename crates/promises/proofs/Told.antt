@@ -11,14 +11,15 @@ use Rattle.mctp.specs.declared.Header.{Header}
 use Rattle.mctp.specs.declared.HeaderRead.{HeaderRead}
 use Rattle.mctp.specs.declared.HeaderRead.the-variants.{Good, Bad}
 use Rattle.mctp.specs.Header.{headerOf}
-use Rattle.reassemble.specs.declared.Reassembler.{Reassembler}
-use Rattle.reassemble.specs.Slot.{isEmpty}
+use Rattle.slot.specs.declared.Reassembler.{Reassembler}
+use Rattle.slot.specs.Slot.{isEmpty}
 use Rattle.reassemble.specs.Enter.{outcomeOf}
 use Rattle.state.specs.Stack.{Stack}
-use Rattle.receiving.specs.declared.ReceiveHandle.{ReceiveHandle}
-use Rattle.receiving.specs.declared.Received.{Received}
-use Rattle.receiving.specs.declared.Received.the-variants.{Message as Handed}
-use Rattle.receiving.specs.Receive.{Receipt, receivedAs, saidOf, receiveOf}
+use Rattle.concluding.specs.declared.ReceiveHandle.{ReceiveHandle}
+use Rattle.concluding.specs.declared.Received.{Received}
+use Rattle.concluding.specs.declared.Received.the-variants.{Message as Handed}
+use Rattle.concluding.specs.Conclude.{saidOf}
+use Rattle.receiving.specs.Receive.{Receipt, receivedAs, receiveOf}
 use Rattle.handling.specs.Handles.{messageIn}
 use Rattle.promises.specs.Calls.{Call, receive, elsewhere, update, startSend, cancelFlow, getDeferred, getDeferredByCookie, fetchMessage, finishedReceive, returnHandle, setCookie, setEid, eid, isLocalDest, freeTags, World, step, steps, receipt, hasKey}
 use Rattle.promises.specs.Delivery.{readFrom, messageAt, allOf}

@@ -17,16 +17,16 @@ use Rattle.mctp.specs.declared.Tag.{Tag}
 use Rattle.mctp.specs.Terms.{tagOf, isOwner}
 use Rattle.stamp.specs.declared.EventStamp.{EventStamp}
 use Rattle.stamp.specs.Stamp.{clocked, isExpired}
-use Rattle.reassemble.specs.declared.State.{State}
-use Rattle.reassemble.specs.declared.State.the-variants.{Empty, Collecting, Done, HandleOut}
-use Rattle.reassemble.specs.declared.Reassembler.{Reassembler}
-use Rattle.reassemble.specs.Slot.{blankSlot, collectingState, outState, issueIs, handleTaken, isDone, isReply, keptUnder, slotTimeout, fadedSlot, restated}
-use Rattle.reassemble.specs.Search.{earliest}
+use Rattle.slot.specs.declared.State.{State}
+use Rattle.slot.specs.declared.State.the-variants.{Empty, Collecting, Done, HandleOut}
+use Rattle.slot.specs.declared.Reassembler.{Reassembler}
+use Rattle.slot.specs.Slot.{blankSlot, collectingState, outState, issueIs, handleTaken, isDone, isReply, keptUnder, slotTimeout, fadedSlot, restated}
+use Rattle.slot.specs.Search.{earliest}
 use Rattle.state.specs.Stack.{Stack, slotAt}
 use Rattle.slot_walks.specs.SlotWalks.{swept}
 use Rattle.walks.specs.Walks.{renow}
-use Rattle.receiving.specs.declared.ReceiveHandle.{ReceiveHandle}
-use Rattle.receiving.specs.Receive.{nextIssue}
+use Rattle.concluding.specs.declared.ReceiveHandle.{ReceiveHandle}
+use Rattle.concluding.specs.Conclude.{nextIssue}
 use Rattle.handling.specs.Handles.{Outcome, Lookup, isGood, handled, takeOf, deferredOf, bySourceOf}
 use Rattle.updating.specs.Update.{Update, checked, updateOf}
 use Rattle.estack.specs.Basics.{cancelOf}

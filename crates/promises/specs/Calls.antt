@@ -17,7 +17,7 @@ use Rattle.mctp.specs.declared.HeaderRead.the-variants.{Good, Bad}
 use Rattle.mctp.specs.Terms.{sameKey, sameEid, sameTag}
 use Rattle.mctp.specs.Header.{headerOf}
 use Rattle.state.specs.Stack.{Stack}
-use Rattle.receiving.specs.declared.ReceiveHandle.{ReceiveHandle}
+use Rattle.concluding.specs.declared.ReceiveHandle.{ReceiveHandle}
 use Rattle.sending.specs.declared.Send.{Send}
 use Rattle.receiving.specs.Receive.{Receipt, receiveOf}
 use Rattle.handling.specs.Handles.{finishOf, returnOf, cookieOf, bySourceOf, byCookieOf}

@@ -17,12 +17,12 @@ use Rattle.mctp.specs.declared.Cookie.{Cookie}
 use Rattle.mctp.specs.declared.Cookie.the-variants.{Absent}
 use Rattle.mctp.specs.Terms.{sameEid, anyEid}
 use Rattle.flows.specs.Table.{standing, flowCookie}
-use Rattle.reassemble.specs.declared.Reassembler.{Reassembler}
-use Rattle.reassemble.specs.Slot.{isEmpty, collects}
+use Rattle.slot.specs.declared.Reassembler.{Reassembler}
+use Rattle.slot.specs.Slot.{isEmpty, collects}
 use Rattle.reassemble.specs.Enter.{isLocal}
 use Rattle.state.specs.Stack.{Stack, slotAt}
 use Rattle.fragment.specs.Cutting.{Carries}
-use Rattle.receiving.specs.declared.ReceiveHandle.{ReceiveHandle}
+use Rattle.concluding.specs.declared.ReceiveHandle.{ReceiveHandle}
 use Rattle.receiving.specs.Receive.{receivedAs}
 use Rattle.handling.specs.declared.Message.{Message as Facts}
 use Rattle.handling.specs.declared.Fetched.the-variants.{Message as Fetch}

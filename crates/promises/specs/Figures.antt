@@ -10,7 +10,7 @@ use Rattle.mctp.specs.declared.Eid.{Eid}
 use Rattle.mctp.specs.declared.Tag.{Tag}
 use Rattle.mctp.specs.declared.Cookie.the-variants.{Absent}
 use Rattle.mctp.specs.Terms.{errorNo, tagOf}
-use Rattle.reassemble.specs.Slot.{isEmpty}
+use Rattle.slot.specs.Slot.{isEmpty}
 use Rattle.fragment.specs.declared.Fragmenter.{Fragmenter}
 use Rattle.fragment.specs.declared.SendOutput.{SendOutput}
 use Rattle.fragment.specs.declared.SendOutput.the-variants.{Packet, Complete, Error as Failed}
@@ -19,8 +19,8 @@ use Rattle.fragment.specs.declared.Started.the-variants.{Sends, Refused as Unse
 use Rattle.fragment.specs.Step.{stepOf}
 use Rattle.fragment.specs.Run.{written}
 use Rattle.state.specs.Stack.{Stack, slotAt}
-use Rattle.receiving.specs.declared.Received.{Received}
-use Rattle.receiving.specs.declared.Received.the-variants.{More, Message as Told, Refused as Unreceived}
+use Rattle.concluding.specs.declared.Received.{Received}
+use Rattle.concluding.specs.declared.Received.the-variants.{More, Message as Told, Refused as Unreceived}
 use Rattle.updating.specs.declared.Updated.{Updated}
 use Rattle.updating.specs.declared.Updated.the-variants.{Next, Refused as Unmoved}
 use Rattle.sending.specs.declared.Send.{Send}

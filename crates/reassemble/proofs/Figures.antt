@@ -14,12 +14,12 @@ use Rattle.mctp.specs.Header.{headerOf}
 use Rattle.stamp.specs.declared.EventStamp.{EventStamp}
 use Rattle.stamp.specs.declared.Timeout.the-variants.{Untimed, Expired, Left}
 use Rattle.stamp.specs.Stamp.{timeoutOf, expired}
-use Rattle.reassemble.specs.declared.State.{State}
-use Rattle.reassemble.specs.declared.State.the-variants.{Collecting, Done, HandleOut}
-use Rattle.reassemble.specs.declared.Reassembler.{Reassembler}
+use Rattle.slot.specs.declared.State.{State}
+use Rattle.slot.specs.declared.State.the-variants.{Collecting, Done, HandleOut}
+use Rattle.slot.specs.declared.Reassembler.{Reassembler}
 use Rattle.reassemble.specs.declared.Outcome.the-variants.{Whole, Freed}
 use Rattle.reassemble.specs.declared.Entry.{Entry}
-use Rattle.reassemble.specs.Slot.{blankSlot, restated, slotTimeout}
+use Rattle.slot.specs.Slot.{blankSlot, restated, slotTimeout}
 use Rattle.reassemble.specs.Enter.{enter, append, opened, freed}
 
 -- the event's stamp

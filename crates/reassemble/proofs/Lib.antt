@@ -1,3 +1,3 @@
-pub mod States
-pub mod Searches
+-- The laws that callers cite.
+pub mod Entries
 pub mod Figures

@@ -18,14 +18,14 @@ use Rattle.mctp.specs.declared.Error.the-variants.{InvalidInput, NoSpace, Unrea
 use Rattle.mctp.specs.Terms.{sameEid, nullEid, anyEid}
 use Rattle.mctp.specs.Header.{headerOf, typeOf}
 use Rattle.stamp.specs.declared.EventStamp.{EventStamp}
-use Rattle.reassemble.specs.declared.State.the-variants.{Collecting, HandleOut}
-use Rattle.reassemble.specs.declared.Reassembler.{Reassembler}
+use Rattle.slot.specs.declared.State.the-variants.{Collecting, HandleOut}
+use Rattle.slot.specs.declared.Reassembler.{Reassembler}
 use Rattle.reassemble.specs.declared.Gate.{Gate}
 use Rattle.reassemble.specs.declared.Gate.the-variants.{Shut, Pass}
 use Rattle.reassemble.specs.declared.Outcome.{Outcome}
 use Rattle.reassemble.specs.declared.Outcome.the-variants.{More, Whole, Freed}
 use Rattle.reassemble.specs.declared.Entry.{Entry}
-use Rattle.reassemble.specs.Slot.{blankSlot, isEmpty}
+use Rattle.slot.specs.Slot.{blankSlot, isEmpty}
 
 -- destination own or 0
 unfoldable pub isLocal : Eid → Eid → Bool

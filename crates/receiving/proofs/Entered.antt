@@ -23,9 +23,9 @@ use Rattle.mctp.specs.Header.{headerOf, HeaderOk}
 use Rattle.stamp.specs.declared.EventStamp.{EventStamp}
 use Rattle.stamp.specs.Stamp.{next}
 use Rattle.flows.specs.Table.{standing, flowCookie, flowPlace}
-use Rattle.reassemble.specs.declared.State.{State}
-use Rattle.reassemble.specs.declared.State.the-variants.{HandleOut}
-use Rattle.reassemble.specs.declared.Reassembler.{Reassembler}
+use Rattle.slot.specs.declared.State.{State}
+use Rattle.slot.specs.declared.State.the-variants.{HandleOut}
+use Rattle.slot.specs.declared.Reassembler.{Reassembler}
 use Rattle.reassemble.specs.declared.Entry.{Entry}
 use Rattle.reassemble.specs.declared.Gate.{Gate}
 use Rattle.reassemble.specs.declared.Gate.the-variants.{Shut, Pass}
@@ -36,7 +36,6 @@ use Rattle.state.specs.Stack.{Stack, Kept, Becomes, stackOf}
 use Rattle.state.proofs.StackLaws.{flow-ok, head-ok}
 use Rattle.walks.specs.Walks.{ticked}
 use Rattle.slot_walks.proofs.SlotChecks.{blank-ok}
-use Rattle.receiving.specs.Receive.{nextIssue}
 
 -- bytes that fit slot i's body fit the pool
 pub in-pool : (B i n at len : ℕ) → i < n → at + len ≤ B → B * i + at + len ≤ B * n
@@ -72,12 +71,6 @@ pub ticked-ok : (z : Sizes) (b x : List ℕ) (t : EventStamp) → t ≡ next (st
 ticked-ok z b x t e m =
     let h = head-ok z x (m .kept) in
     subst StampOk (ap (λ (s : Stack). s .head .now) (m .view) ∙ sym e) (record { counter = h .counter; clock = h .clock })
-
--- the next number of a handle has its range
-pub issue-fits : (n : ℕ) → n < 2 ^ 64 → nextIssue n < 2 ^ 64
-unfolding nextIssue
-issue-fits n h =
-    pick-cases (λ (m : ℕ). m < 2 ^ 64) (λ e. let l = ltb-true n 18446744073709551615 e in omega arith) (λ _. h)
 
 module _ (B : ℕ) (now : EventStamp) (issue : ℕ) (h : Header) (p : List ℕ) (small : B ≤ 65535) (stamp : StampOk now) (fits : issue < 2 ^ 64) where
   -- n bytes more, in another state and with another stamp

@@ -10,7 +10,7 @@ use Rattle.octets.specs.Pick.{pick, pick-true, pick-false, pick-cases}
 use Rattle.octets.proofs.Bools.{false-true}
 use Rattle.mctp.specs.declared.Header.{Header}
 use Rattle.stamp.specs.declared.EventStamp.{EventStamp}
-use Rattle.reassemble.specs.declared.Reassembler.{Reassembler}
+use Rattle.slot.specs.declared.Reassembler.{Reassembler}
 use Rattle.reassemble.specs.declared.Outcome.the-variants.{More as Going}
 use Rattle.reassemble.specs.declared.Entry.{Entry}
 use Rattle.reassemble.specs.declared.Gate.the-variants.{Pass}

@@ -25,16 +25,16 @@ use Rattle.stamp.specs.declared.EventStamp.{EventStamp}
 use Rattle.stamp.specs.Stamp.{next}
 use Rattle.flows.specs.declared.Flow.{Flow}
 use Rattle.flows.specs.Table.{standing, flowCookie, flowPlace}
-use Rattle.reassemble.specs.declared.State.{State}
-use Rattle.reassemble.specs.declared.State.the-variants.{Empty, Collecting, Done, HandleOut}
-use Rattle.reassemble.specs.declared.Reassembler.{Reassembler}
+use Rattle.slot.specs.declared.State.{State}
+use Rattle.slot.specs.declared.State.the-variants.{Empty, Collecting, Done, HandleOut}
+use Rattle.slot.specs.declared.Reassembler.{Reassembler}
 use Rattle.reassemble.specs.declared.Outcome.{Outcome}
 use Rattle.reassemble.specs.declared.Outcome.the-variants.{Whole}
 use Rattle.reassemble.specs.declared.Entry.{Entry}
 use Rattle.reassemble.specs.declared.Gate.{Gate}
 use Rattle.reassemble.specs.declared.Gate.the-variants.{Shut, Pass}
-use Rattle.reassemble.specs.Slot.{blankSlot, isEmpty, emptyState, collects, collectsIn}
-use Rattle.reassemble.specs.Search.{slotFor}
+use Rattle.slot.specs.Slot.{blankSlot, isEmpty, emptyState, collects, collectsIn}
+use Rattle.slot.specs.Search.{slotFor}
 use Rattle.reassemble.specs.Enter.{gate, gateEmpty, gateReply, enter}
 use Rattle.state.specs.declared.Sizes.{Sizes}
 use Rattle.state.specs.Head.{reissued}
@@ -42,27 +42,10 @@ use Rattle.state.specs.Stack.{Stack, Becomes, stackOf, slotAt, rehead}
 use Rattle.state.proofs.StackLaws.{andThen}
 use Rattle.walks.specs.Walks.{ticked, reflows}
 use Rattle.state.proofs.Steps.{becomes-as}
-use Rattle.receiving.specs.declared.Received.{Received}
-use Rattle.receiving.specs.declared.Received.the-variants.{Refused}
-use Rattle.receiving.specs.Receive.{Receipt, Makes, refuse, nextIssue, saidOf, flowsAfter, concluded, settled, land, receiveAt, receiveBy, receiveOf}
-
--- a whole message: its handle's number, then its flow's end
-pub ended : (z : Sizes) (b x y : List ℕ) (k : Key) (issue : ℕ) → issue ≡ nextIssue (stackOf z b .head .issue)
-    → Becomes z b x (rehead (reissued issue (stackOf z b .head)) (stackOf z b))
-    → Becomes z x y (reflows (flowsAfter Whole k (stackOf z x .flows)) (stackOf z x))
-    → Becomes z b y (concluded Whole k (stackOf z b))
-ended z b x y k issue e p q =
-    let st = stackOf z b in
-    becomes-as z b y (ap (λ (n : ℕ). record { head = reissued n (st .head); flows = flowsAfter Whole k (st .flows); slots = st .slots }) e)
-    (andThen z (λ (s : Stack). reflows (flowsAfter Whole k (s .flows)) s) b x y (rehead (reissued issue (st .head)) st) p q)
-
--- what is said of an outcome, and what it makes of the stack beside its slot
-abbrev pub Concludes : Sizes → List ℕ → List ℕ → Key → ℕ → ℕ → Received → Outcome → Type 0
-Concludes z b b′ k i issue r o = (r ≡ saidOf o i issue) × Becomes z b b′ (concluded o k (stackOf z b))
-
-pub concludes-as : (z : Sizes) (b b′ : List ℕ) (k : Key) (i issue : ℕ) (r : Received) (o q : Outcome) → o ≡ q
-    → Concludes z b b′ k i issue r q → Concludes z b b′ k i issue r o
-concludes-as z b b′ k i issue r o q e m = subst (Concludes z b b′ k i issue r) (sym e) m
+use Rattle.concluding.specs.declared.Received.{Received}
+use Rattle.concluding.specs.declared.Received.the-variants.{Refused}
+use Rattle.concluding.specs.Conclude.{nextIssue}
+use Rattle.receiving.specs.Receive.{Receipt, Makes, refuse, settled, land, receiveAt, receiveBy, receiveOf}
 
 -- step 3: the slot that the packet enters, the event's stamp and the number are the definition's
 pub lands : (B i : ℕ) (st : Stack) (h : Header) (p : List ℕ) (s : Reassembler) (e : Entry) (t : EventStamp) (n : ℕ)

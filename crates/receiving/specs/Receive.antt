@@ -1,6 +1,6 @@
 -- Document 01, "Reassembler", receive: PoolShort first; then the slot, NoSpace before any look at the header; then steps 2 to 6. B is the most that a
 -- body holds; slot i keeps its body from byte B i of the pool. The answer holds the stack after the call, what is said, and the one write to the pool.
--- Leans on `reassemble` for one slot's part, on `flows` for the reply's flow.
+-- Leans on `reassemble` for one slot's part, on `flows` for the reply's flow, on `concluding` for what an outcome says.
 use Prim.Native.Nat.{ℕ, _+_, _-_, _*_}
 use mathlib.Core.Path.{_≡_}
 use mathlib.Core.Bool.{Bool, true, false}
@@ -17,24 +17,20 @@ use Rattle.mctp.specs.declared.Error.{Error}
 use Rattle.mctp.specs.declared.Error.the-variants.{InvalidInput, NoSpace, PoolShort}
 use Rattle.mctp.specs.Terms.{errorNo}
 use Rattle.mctp.specs.Header.{headerOf}
-use Rattle.flows.specs.declared.Flow.{Flow}
-use Rattle.flows.specs.Table.{standing, flowCookie, removed}
-use Rattle.reassemble.specs.declared.Outcome.{Outcome}
-use Rattle.reassemble.specs.declared.Outcome.the-variants.{More as Going, Whole, Freed}
+use Rattle.flows.specs.Table.{standing, flowCookie}
 use Rattle.reassemble.specs.declared.Entry.{Entry}
 use Rattle.reassemble.specs.declared.Gate.{Gate}
 use Rattle.reassemble.specs.declared.Gate.the-variants.{Shut, Pass}
-use Rattle.reassemble.specs.Slot.{isEmpty}
-use Rattle.reassemble.specs.Search.{slotFor}
+use Rattle.slot.specs.Slot.{isEmpty}
+use Rattle.slot.specs.Search.{slotFor}
 use Rattle.reassemble.specs.Enter.{gate, enter}
-use Rattle.state.specs.Head.{reissued}
 use Rattle.state.specs.declared.Progress.{Progress}
 use Rattle.state.specs.declared.Sizes.{Sizes}
 use Rattle.state.specs.Stack.{Stack, Becomes, slotAt, reslot}
 use Rattle.walks.specs.Walks.{ticked}
-use Rattle.receiving.specs.declared.ReceiveHandle.{ReceiveHandle}
-use Rattle.receiving.specs.declared.Received.{Received}
-use Rattle.receiving.specs.declared.Received.the-variants.{More, Message, Refused}
+use Rattle.concluding.specs.declared.Received.{Received}
+use Rattle.concluding.specs.declared.Received.the-variants.{More, Message, Refused}
+use Rattle.concluding.specs.Conclude.{nextIssue, saidOf, concluded}
 
 pub record Receipt : Type 0 where
   pub stack : Stack
@@ -46,36 +42,11 @@ pub record Receipt : Type 0 where
 abbrev pub refuse : Error → Stack → Receipt
 refuse err st = record { stack = st; said = Refused err; at = 0; bytes = [] }
 
--- the number of the next handle that goes out: one count for the whole stack, staying at 2^64 - 1
-unfoldable pub nextIssue : ℕ → ℕ
-nextIssue n = pick (ltb n 18446744073709551615) (n + 1) n
-
 -- an answer in document 01's numbers: 0 while more is to come; 0, the slot's index and the handle's number with a message; else the refusal's number
 abbrev pub receivedAs : Received → List ℕ
 receivedAs More = 0 ∷ []
 receivedAs (Message h) = 0 ∷ h .index ∷ h .issue ∷ []
 receivedAs (Refused err) = errorNo err ∷ []
-
-abbrev pub saidOf : Outcome → ℕ → ℕ → Received
-saidOf Going i issue = More
-saidOf Whole i issue = Message (record { index = i; issue = issue })
-saidOf (Freed err) i issue = Refused err
-
--- step 6: with EOM, if TO=0 the flow is removed, and if it has gone already nothing happens
-abbrev pub flowsAfter : Outcome → Key → List Flow → List Flow
-flowsAfter Going k flows = flows
-flowsAfter Whole k flows = pick (k .owner) flows (removed (k .source) (k .tag) flows)
-flowsAfter (Freed err) k flows = flows
-
--- a handle that goes out takes the next number
-abbrev pub issueAfter : Outcome → ℕ → ℕ
-issueAfter Going n = n
-issueAfter Whole n = nextIssue n
-issueAfter (Freed err) n = n
-
--- what a packet's outcome makes of the stack beside its slot
-abbrev pub concluded : Outcome → Key → Stack → Stack
-concluded o k st = record { head = reissued (issueAfter o (st .head .issue)) (st .head); flows = flowsAfter o k (st .flows); slots = st .slots }
 
 -- one store of one slot, one write to the pool, then the flow
 abbrev pub settled : ℕ → ℕ → Stack → Key → List ℕ → Entry → Receipt

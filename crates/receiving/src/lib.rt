@@ -1,21 +1,229 @@
-// Receive: document 01's call over the whole stack, and the count of handles. Find the slot, gate, enter, settle: one store of one slot, one write to the
-// pool, then the flow (steps.rt).
-// Leans on `state` for the layout, on `slot_walks` and `flow_walks` for searches, on `reassemble` for one slot's part. Definitions: specs/Receive.antt.
-mod issue;
-mod steps;
-
-pub use issue::next_issue;
+// Receive: document 01's call over the whole stack. Find the slot, gate, enter, settle: one store of one slot, one write to the pool, then the flow.
+// A middle packet goes a short way: of its slot the sequence and the length alone are read and stored. Definitions: specs/Receive.antt.
+// Leans on `state` for the layout, on `slot_walks` and `flow_walks` for searches, on `reassemble` for one slot's part, on `concluding` for its end.
+ghost use mathlib.Core.Path.{_≡_};
+ghost use Prim.Native.Nat.{_+_, _-_, _*_, _≤_, _<_};
+ghost use lib.ListN.{length};
+ghost use mathlib.Core.Bool.{true};
+ghost use Rattle.mctp.specs.declared.HeaderRead.the-variants.{Good, Bad};
+ghost use Rattle.reassemble.specs.declared.Gate.the-variants.{Pass};
+ghost use Rattle.slot.specs.Slot.{isEmpty};
+ghost use Rattle.reassemble.specs.Enter.{gateEmpty, gateReply, Planned};
+ghost use Rattle.flows.specs.Table.{standing, flowCookie};
+ghost use Rattle.state.specs.Slot.{SlotOk, progressOf};
+ghost use Rattle.state.specs.Stack.{Kept, Becomes, stackOf, slotAt};
+ghost use Rattle.receiving.specs.Receive.{receiveOf, receiveBy, receiveAt, goesOn, land, settled, Makes};
+use concluding::Received;
+use mctp::Cookie;
 use mctp::Error;
-pub use steps::receive;
+use mctp::Header;
+use mctp::HeaderRead;
+use mctp::Key;
+use reassemble::Entry;
+use reassemble::Gate;
+use slot::Reassembler;
+use state::Progress;
+use state::Sizes;
 
-// A slot's index, and the number under which its handle went out.
-pub struct ReceiveHandle {
-    pub index: usize,
-    pub issue: u64,
+// Receives a packet.
+pub fn receive(state: &mut [u8], sizes: Sizes, pool: &mut [u8], packet: &[u8]) -> Received
+    requires { ⌜ Kept sizes (now state) ⌝ }
+    ensures { λ r. ⌜ Makes sizes (receiveOf (sizes .body) (stackOf sizes (now (state .entry))) (length (now (pool .entry))) (now (packet .entry))) r (now (state .entry)) (now (state .exit)) (now (pool .entry)) (now (pool .exit)) ⌝ }
+{
+    if pool.len() < sizes.body * sizes.slots {
+        return Received::Refused(Error::PoolShort);
+    }
+    match mctp::read_header(packet) {
+        HeaderRead::Good(h) => receive_good(state, sizes, pool, packet, h),
+        HeaderRead::Bad => receive_bad(state, sizes, packet),
+    }
 }
 
-pub enum Received {
-    More,
-    Message(ReceiveHandle),
-    Refused(Error),
+// A bad header matches no slot, and takes the empty slot's way.
+fn receive_bad(state: &mut [u8], sizes: Sizes, packet: &[u8]) -> Received
+    requires { ⌜ Kept sizes (now state) ⌝ }
+    ensures { λ r. ⌜ (r ≡ receiveBy (sizes .body) (stackOf sizes (now (state .entry))) (now (packet .entry)) Bad .said) × Becomes sizes (now (state .entry)) (now (state .exit)) (receiveBy (sizes .body) (stackOf sizes (now (state .entry))) (now (packet .entry)) Bad .stack) ⌝ }
+{
+    let empty = slot_walks::find_empty(state, sizes);
+    if empty < sizes.slots {
+        walks::tick(state, sizes);
+        return Received::Refused(Error::InvalidInput);
+    }
+    Received::Refused(Error::NoSpace)
+}
+
+fn receive_good(
+    state: &mut [u8],
+    sizes: Sizes,
+    pool: &mut [u8],
+    packet: &[u8],
+    h: Header,
+) -> Received
+    requires { ⌜ Kept sizes (now state) × (h .key .tag .0 < 8) × (h .seq < 4) × (4 ≤ length (now packet)) × (sizes .body * sizes .slots ≤ length (now pool)) ⌝ }
+    ensures { λ r. ⌜ Makes sizes (receiveBy (sizes .body) (stackOf sizes (now (state .entry))) (now (packet .entry)) (Good h)) r (now (state .entry)) (now (state .exit)) (now (pool .entry)) (now (pool .exit)) ⌝ }
+{
+    let i = slot_walks::find_collecting(state, sizes, h.key);
+    if i < sizes.slots {
+        return go_on(state, sizes, pool, packet, h, i);
+    }
+    let j = slot_walks::find_empty(state, sizes);
+    if j < sizes.slots {
+        return open(state, sizes, pool, packet, h, j);
+    }
+    Received::Refused(Error::NoSpace)
+}
+
+// A slot that collects the key: a middle packet goes the short way.
+fn go_on(
+    state: &mut [u8],
+    sizes: Sizes,
+    pool: &mut [u8],
+    packet: &[u8],
+    h: Header,
+    i: usize,
+) -> Received
+    requires { ⌜ Kept sizes (now state) × (h .key .tag .0 < 8) × (h .seq < 4) × (4 ≤ length (now packet)) × (sizes .body * sizes .slots ≤ length (now pool)) × (i < sizes .slots) ⌝ }
+    ensures { λ r. ⌜ Makes sizes (land (sizes .body) i (stackOf sizes (now (state .entry))) h (now (packet .entry)) (Pass (slotAt i (stackOf sizes (now (state .entry)))))) r (now (state .entry)) (now (state .exit)) (now (pool .entry)) (now (pool .exit)) ⌝ }
+{
+    let p = state::progress_at(state, sizes, i);
+    let n = packet.len() - 4;
+    let short = goes_on(h, p, n, sizes.body);
+    if short {
+        return carry(state, sizes, pool, packet, h, i, p);
+    }
+    let s = state::slot_at(state, sizes, i);
+    enter(state, sizes, pool, packet, h, i, s)
+}
+
+// A middle packet of n bytes: neither first nor last, in turn, with room.
+fn goes_on(h: Header, p: Progress, n: usize, body: usize) -> bool
+    requires { ⌜ p .len ≤ body ⌝ }
+    ensures { λ r. ⌜ r ≡ goesOn h p n body ⌝ }
+{
+    if h.som {
+        return false;
+    }
+    if h.eom {
+        return false;
+    }
+    if h.seq == p.seq {
+        return n <= body - p.len;
+    }
+    false
+}
+
+// A middle packet: of its slot the sequence and the length alone change.
+fn carry(
+    state: &mut [u8],
+    sizes: Sizes,
+    pool: &mut [u8],
+    packet: &[u8],
+    h: Header,
+    i: usize,
+    p: Progress,
+) -> Received
+    requires { ⌜ Kept sizes (now state) × (4 ≤ length (now packet)) × (sizes .body * sizes .slots ≤ length (now pool)) × (i < sizes .slots) × (p ≡ progressOf (slotAt i (stackOf sizes (now state)))) × (p .len ≤ sizes .body) × (goesOn h p (length (now packet) - 4) (sizes .body) ≡ true) ⌝ }
+    ensures { λ r. ⌜ Makes sizes (land (sizes .body) i (stackOf sizes (now (state .entry))) h (now (packet .entry)) (Pass (slotAt i (stackOf sizes (now (state .entry)))))) r (now (state .entry)) (now (state .exit)) (now (pool .entry)) (now (pool .exit)) ⌝ }
+{
+    let n = packet.len() - 4;
+    walks::tick(state, sizes);
+    let seq = (h.seq % 4 + 1) % 4;
+    let len = p.len + n;
+    let next = Progress { seq: seq, len: len };
+    state::put_progress(state, sizes, i, next);
+    let at = sizes.body * i + p.len;
+    copying::copy(&mut pool[at..], &packet[4..]);
+    Received::More
+}
+
+// Step 2: an empty slot counts one event, and asks what it asks.
+fn open(
+    state: &mut [u8],
+    sizes: Sizes,
+    pool: &mut [u8],
+    packet: &[u8],
+    h: Header,
+    i: usize,
+) -> Received
+    requires { ⌜ Kept sizes (now state) × (h .key .tag .0 < 8) × (h .seq < 4) × (4 ≤ length (now packet)) × (sizes .body * sizes .slots ≤ length (now pool)) × (i < sizes .slots) × (isEmpty (slotAt i (stackOf sizes (now state))) ≡ true) ⌝ }
+    ensures { λ r. ⌜ Makes sizes (receiveAt (sizes .body) i (stackOf sizes (now (state .entry))) (now (packet .entry)) (Good h)) r (now (state .entry)) (now (state .exit)) (now (pool .entry)) (now (pool .exit)) ⌝ }
+{
+    let gate = gate_at(state, sizes, h);
+    walks::tick(state, sizes);
+    match gate {
+        Gate::Shut(err) => Received::Refused(err),
+        Gate::Pass(s) => enter(state, sizes, pool, packet, h, i, s),
+    }
+}
+
+fn gate_at(state: &[u8], sizes: Sizes, h: Header) -> Gate
+    requires { ⌜ Kept sizes (now state) ⌝ }
+    ensures { λ r. ⌜ r ≡ gateEmpty (stackOf sizes (now (state .entry)) .head .«own_eid») h (standing (h .key .source) (h .key .tag) (stackOf sizes (now (state .entry)) .flows)) (flowCookie (h .key .source) (h .key .tag) (stackOf sizes (now (state .entry)) .flows)) ⌝ }
+{
+    let own = state::own_eid(state, sizes);
+    if reassemble::opens(own, h) {
+        if h.key.owner {
+            return Gate::Pass(reassemble::open(h, Cookie::Absent));
+        }
+        return gate_by_flow(state, sizes, h);
+    }
+    Gate::Shut(Error::InvalidInput)
+}
+
+// A reply asks for its flow.
+fn gate_by_flow(state: &[u8], sizes: Sizes, h: Header) -> Gate
+    requires { ⌜ Kept sizes (now state) ⌝ }
+    ensures { λ r. ⌜ r ≡ gateReply h (standing (h .key .source) (h .key .tag) (stackOf sizes (now (state .entry)) .flows)) (flowCookie (h .key .source) (h .key .tag) (stackOf sizes (now (state .entry)) .flows)) ⌝ }
+{
+    let source = h.key.source;
+    let tag = h.key.tag;
+    let i = flow_walks::find_flow(state, sizes, source, tag);
+    if i < state::FLOW_COUNT {
+        let f = state::flow_at(state, sizes, i);
+        let cookie = f.cookie;
+        return reassemble::gate_reply(h, true, cookie);
+    }
+    reassemble::gate_reply(h, false, Cookie::Absent)
+}
+
+// Steps 3 to 6: one event is counted, and the packet enters slot i, which is s.
+fn enter(
+    state: &mut [u8],
+    sizes: Sizes,
+    pool: &mut [u8],
+    packet: &[u8],
+    h: Header,
+    i: usize,
+    s: Reassembler,
+) -> Received
+    requires { ⌜ Kept sizes (now state) × (h .key .tag .0 < 8) × (h .seq < 4) × (4 ≤ length (now packet)) × (sizes .body * sizes .slots ≤ length (now pool)) × (i < sizes .slots) × SlotOk (sizes .body) s ⌝ }
+    ensures { λ r. ⌜ Makes sizes (land (sizes .body) i (stackOf sizes (now (state .entry))) h (now (packet .entry)) (Pass s)) r (now (state .entry)) (now (state .exit)) (now (pool .entry)) (now (pool .exit)) ⌝ }
+{
+    let stamp = walks::tick(state, sizes);
+    let issue = concluding::next_issue(state::issue_at(state, sizes));
+    let e = reassemble::receive(s, h, packet, stamp, issue, sizes.body);
+    settle(state, sizes, pool, packet, h.key, i, e)
+}
+
+// One store of one slot, one write to the pool, then the flow.
+fn settle(
+    state: &mut [u8],
+    sizes: Sizes,
+    pool: &mut [u8],
+    packet: &[u8],
+    key: Key,
+    i: usize,
+    e: Entry,
+) -> Received
+    requires { ⌜ Kept sizes (now state) × (i < sizes .slots) × (sizes .body * sizes .slots ≤ length (now pool)) × Planned e (length (now packet)) (sizes .body) × SlotOk (sizes .body) (e .slot) ⌝ }
+    ensures { λ r. ⌜ Makes sizes (settled (sizes .body) i (stackOf sizes (now (state .entry))) key (now (packet .entry)) e) r (now (state .entry)) (now (state .exit)) (now (pool .entry)) (now (pool .exit)) ⌝ }
+{
+    let slot = e.slot;
+    state::put_slot(state, sizes, i, slot);
+    let outcome = e.outcome;
+    let said = concluding::conclude(state, sizes, key, i, outcome);
+    let at = sizes.body * i + e.at;
+    let from = e.from;
+    copying::copy(&mut pool[at..], &packet[from..]);
+    said
 }

@@ -12,10 +12,10 @@ use Rattle.octets.specs.Pick.{pick, pick-true, pick-false}
 use Rattle.octets.specs.Find.{find}
 use Rattle.octets.proofs.Finds.{here, next, none}
 use Rattle.stamp.specs.Stamp.{earlier}
-use Rattle.reassemble.specs.declared.Reassembler.{Reassembler}
-use Rattle.reassemble.specs.Slot.{isDone, blankSlot}
-use Rattle.reassemble.specs.Search.{earliest}
-use Rattle.reassemble.proofs.Searches.{earliest-bound, earliest-end, earliest-down}
+use Rattle.slot.specs.declared.Reassembler.{Reassembler}
+use Rattle.slot.specs.Slot.{isDone, blankSlot}
+use Rattle.slot.specs.Search.{earliest}
+use Rattle.slot.proofs.Searches.{earliest-bound, earliest-end, earliest-down}
 use Rattle.state.specs.declared.Sizes.{Sizes}
 use Rattle.state.specs.Stack.{stackOf, slotAt}
 use Rattle.state.proofs.StackLaws.{slots-length}

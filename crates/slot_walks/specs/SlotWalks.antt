@@ -10,8 +10,8 @@ use Rattle.octets.specs.Pick.{pick}
 use Rattle.mctp.specs.declared.Eid.{Eid}
 use Rattle.mctp.specs.declared.TagValue.{TagValue}
 use Rattle.stamp.specs.Stamp.{earlier}
-use Rattle.reassemble.specs.declared.Reassembler.{Reassembler}
-use Rattle.reassemble.specs.Slot.{blankSlot, isReply, handleTaken, keptUnder, listed}
+use Rattle.slot.specs.declared.Reassembler.{Reassembler}
+use Rattle.slot.specs.Slot.{blankSlot, isReply, handleTaken, keptUnder, listed}
 use Rattle.state.specs.Slot.{keyWord}
 use Rattle.slot_walks.specs.declared.Choice.{Choice}
 use Rattle.slot_walks.specs.declared.Choice.the-variants.{From, Listed}

@@ -6,8 +6,8 @@ ghost use mathlib.Core.List.{map, _∷_, []};
 ghost use Prim.Native.Nat.{_+_, _≤_, _<_};
 ghost use lib.ListN.{getD};
 ghost use Rattle.octets.specs.Find.{find};
-ghost use Rattle.reassemble.specs.Slot.{blankSlot, isEmpty, collects, keptUnder, listed, slotTimeout, fadedSlot};
-ghost use Rattle.reassemble.specs.Search.{earliest};
+ghost use Rattle.slot.specs.Slot.{blankSlot, isEmpty, collects, keptUnder, listed, slotTimeout, fadedSlot};
+ghost use Rattle.slot.specs.Search.{earliest};
 ghost use Rattle.state.specs.Slot.{wordOf};
 ghost use Rattle.state.specs.Stack.{Kept, Becomes, stackOf, slotAt, reslot};
 ghost use Rattle.walks.specs.Walks.{reslots, checkOf, slotTimes};
@@ -16,7 +16,7 @@ use mctp::Cookie;
 use mctp::Eid;
 use mctp::Key;
 use mctp::TagValue;
-use reassemble::Reassembler;
+use slot::Reassembler;
 use state::Sizes;
 use walks::Check;
 
@@ -81,7 +81,7 @@ fn expire_slot(state: &mut [u8], sizes: Sizes, i: usize, clock: u64, c: Check) -
     let found = c.noted(t);
     let expired = t.is_expired();
     if expired {
-        state::put_slot(state, sizes, i, reassemble::blank());
+        state::put_slot(state, sizes, i, slot::blank());
     }
     found
 }
@@ -151,7 +151,7 @@ fn passes(s: Reassembler, choice: Choice, cookies: &[u64]) -> bool
 {
     let cookie = s.cookie;
     match choice {
-        Choice::From(peer, owner, tag) => reassemble::is_from(s, peer, owner, tag),
+        Choice::From(peer, owner, tag) => slot::is_from(s, peer, owner, tag),
         Choice::Listed => is_listed(cookies, cookie),
     }
 }
@@ -198,13 +198,13 @@ fn sweep_slot(state: &mut [u8], sizes: Sizes, i: usize, peer: Eid, tag: TagValue
     ensures { λ r. ⌜ (r ≡ blocked peer tag (slotAt i (stackOf sizes (now (state .entry))) ∷ [])) × Becomes sizes (now (state .entry)) (now (state .exit)) (reslot i (getD (swept peer tag (slotAt i (stackOf sizes (now (state .entry))) ∷ [])) 0 blankSlot) (stackOf sizes (now (state .entry)))) ⌝ }
 {
     let s = state::slot_at(state, sizes, i);
-    let reply = reassemble::is_reply(s, peer, tag);
+    let reply = slot::is_reply(s, peer, tag);
     if reply {
         let out = s.handle_taken();
         if out {
             return true;
         }
-        state::put_slot(state, sizes, i, reassemble::blank());
+        state::put_slot(state, sizes, i, slot::blank());
         return false;
     }
     false

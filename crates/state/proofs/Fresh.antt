@@ -17,7 +17,7 @@ use Rattle.flows.specs.Codec.{flowWidth, expiryOf, flowCodec, flowOf}
 use Rattle.flows.specs.Table.{noFlow}
 use Rattle.flows.proofs.CodecLaws.{blank-flow}
 use Rattle.flows.proofs.TableLaws.{no-flow-ok}
-use Rattle.reassemble.specs.Slot.{blankSlot}
+use Rattle.slot.specs.Slot.{blankSlot}
 use Rattle.state.specs.declared.Head.{Head}
 use Rattle.state.specs.declared.Sizes.{Sizes}
 use Rattle.state.specs.Layout.{headWidth, slotWidth, flowCount, flowsAt, slotsAt, size, SizesOk}

@@ -5,3 +5,4 @@ pub mod StackLaws
 pub mod Words
 pub mod Fresh
 pub mod Steps
+pub mod SizeLaws

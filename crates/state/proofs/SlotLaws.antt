@@ -16,10 +16,10 @@ use Rattle.mctp.specs.Terms.{cookieNo, cookieValue}
 use Rattle.mctp.specs.Header.{bit, typeByte, typeOf}
 use Rattle.mctp.proofs.RoundTrip.{type-back}
 use Rattle.mctp.proofs.CookieLaws.{cookie-back, cookie-small}
-use Rattle.reassemble.specs.declared.State.{State}
-use Rattle.reassemble.specs.declared.State.the-variants.{Empty, Collecting, Done, HandleOut}
-use Rattle.reassemble.specs.declared.Reassembler.{Reassembler}
-use Rattle.reassemble.specs.Slot.{blankSlot, stateNo}
+use Rattle.slot.specs.declared.State.{State}
+use Rattle.slot.specs.declared.State.the-variants.{Empty, Collecting, Done, HandleOut}
+use Rattle.slot.specs.declared.Reassembler.{Reassembler}
+use Rattle.slot.specs.Slot.{blankSlot, stateNo}
 use Rattle.state.specs.declared.Progress.{Progress}
 use Rattle.state.specs.Layout.{slotWidth}
 use Rattle.state.specs.Slot.{issueNo, stateFrom, ownerTag, leadRow, restRow, slotRow, slotBytes, slotOf, SlotOk, ProgressOk, slotCodec, progress, progressRow, progressOf, keyWord}

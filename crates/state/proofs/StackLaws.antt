@@ -17,8 +17,8 @@ use Rattle.flows.specs.Codec.{flowWidth, flowCodec, flowBytes, flowOf, FlowOk}
 use Rattle.flows.specs.Table.{noFlow}
 use Rattle.flows.proofs.CodecLaws.{flow-long, flow-lawful}
 use Rattle.flows.proofs.TableLaws.{no-flow-ok}
-use Rattle.reassemble.specs.declared.Reassembler.{Reassembler}
-use Rattle.reassemble.specs.Slot.{blankSlot}
+use Rattle.slot.specs.declared.Reassembler.{Reassembler}
+use Rattle.slot.specs.Slot.{blankSlot}
 use Rattle.state.specs.declared.Head.{Head}
 use Rattle.state.specs.declared.Sizes.{Sizes}
 use Rattle.state.specs.Layout.{headWidth, slotWidth, flowCount, slotsAt, flowsAt, size}

@@ -9,11 +9,11 @@ use Rattle.octets.proofs.Bools.{false-true}
 use Rattle.mctp.specs.declared.Key.{Key}
 use Rattle.mctp.specs.Terms.{sameKey}
 use Rattle.mctp.proofs.Keys.{same-key-is, same-key-refl}
-use Rattle.reassemble.specs.declared.State.{State}
-use Rattle.reassemble.specs.declared.State.the-variants.{Empty, Collecting, Done, HandleOut}
-use Rattle.reassemble.specs.declared.Reassembler.{Reassembler}
-use Rattle.reassemble.specs.Slot.{stateNo, isEmpty, collectsIn, collects}
-use Rattle.reassemble.proofs.States.{empty-zero}
+use Rattle.slot.specs.declared.State.{State}
+use Rattle.slot.specs.declared.State.the-variants.{Empty, Collecting, Done, HandleOut}
+use Rattle.slot.specs.declared.Reassembler.{Reassembler}
+use Rattle.slot.specs.Slot.{stateNo, isEmpty, collectsIn, collects}
+use Rattle.slot.proofs.States.{empty-zero}
 use Rattle.state.specs.Slot.{wordOf, keyWord, ownerTag, SlotOk}
 use Rattle.state.proofs.SlotLaws.{owner-back, tag-back}
 

@@ -10,8 +10,8 @@ use Rattle.octets.specs.Region.{region, Holds, Regular, bytes}
 use Rattle.flows.specs.declared.Flow.{Flow}
 use Rattle.flows.specs.Codec.{flowCodec}
 use Rattle.flows.specs.Table.{noFlow}
-use Rattle.reassemble.specs.declared.Reassembler.{Reassembler}
-use Rattle.reassemble.specs.Slot.{blankSlot}
+use Rattle.slot.specs.declared.Reassembler.{Reassembler}
+use Rattle.slot.specs.Slot.{blankSlot}
 use Rattle.state.specs.declared.Sizes.{Sizes}
 use Rattle.state.specs.declared.Head.{Head}
 use Rattle.state.specs.Layout.{headWidth, flowCount, flowsAt, slotsAt, size, SizesOk}

@@ -5,7 +5,7 @@ ghost use mathlib.Core.Path.{_≡_};
 ghost use Prim.Native.Nat.{_+_, _%_, _≤_, _<_, _^_};
 ghost use lib.ListN.{replicate};
 ghost use Rattle.octets.specs.Bytes.{lay, puts};
-ghost use Rattle.reassemble.specs.Slot.{stateNo};
+ghost use Rattle.slot.specs.Slot.{stateNo};
 ghost use Rattle.flows.specs.Codec.{FlowOk, flowWord};
 ghost use Rattle.state.specs.Head.{headOf, headBytes, HeadOk, headWith, reowned, renowed, recounted, replanned, retagged, resequenced, reissued};
 ghost use Rattle.state.specs.Slot.{issueNo, stateFrom, ownerTag, slotOf, slotBytes, leadRow, restRow, progressRow, SlotOk, ProgressOk, progress, progressOf, keyWord};
@@ -23,8 +23,8 @@ use octets::put1;
 use octets::put2;
 use octets::put4;
 use octets::put8;
-use reassemble::Reassembler;
-use reassemble::State;
+use slot::Reassembler;
+use slot::State;
 use stamp::EventStamp;
 
 const HEAD_WIDTH: usize = 40;
@@ -49,7 +49,7 @@ impl Sizes {
     // The board's sizes.
     pub const BOARD: Sizes = Sizes {
         slots: 4,
-        body: reassemble::MAX_PAYLOAD,
+        body: slot::MAX_PAYLOAD,
     };
 }
 
@@ -364,7 +364,7 @@ pub fn slot_at(state: &[u8], sizes: Sizes, i: usize) -> Reassembler
     ensures { λ r. ⌜ (r ≡ slotAt i (stackOf sizes (now (state .entry)))) × SlotOk (sizes .body) r ⌝ }
 {
     if sizes.slots <= i {
-        return reassemble::blank();
+        return slot::blank();
     }
     let at = SLOTS_AT + SLOT_WIDTH * i;
     let end = at + SLOT_WIDTH;

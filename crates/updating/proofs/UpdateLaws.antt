@@ -9,7 +9,7 @@ use Rattle.octets.specs.Pick.{pick-cases}
 use Rattle.stamp.specs.declared.EventStamp.{EventStamp}
 use Rattle.stamp.specs.Stamp.{clocked}
 use Rattle.flows.specs.Table.{fadedFlow}
-use Rattle.reassemble.specs.Slot.{fadedSlot}
+use Rattle.slot.specs.Slot.{fadedSlot}
 use Rattle.state.specs.declared.Head.{Head}
 use Rattle.state.specs.declared.Sizes.{Sizes}
 use Rattle.state.specs.Head.{renowed, replanned}

@@ -9,7 +9,7 @@ use Rattle.octets.specs.Pick.{pick}
 use Rattle.mctp.specs.declared.Error.the-variants.{InvalidInput}
 use Rattle.stamp.specs.Stamp.{clocked}
 use Rattle.flows.specs.Table.{fadedFlow}
-use Rattle.reassemble.specs.Slot.{fadedSlot}
+use Rattle.slot.specs.Slot.{fadedSlot}
 use Rattle.state.specs.Head.{replanned}
 use Rattle.state.specs.Stack.{Stack}
 use Rattle.walks.specs.Walks.{renow, leastLeft, anyExpired, slotTimes, flowTimes}

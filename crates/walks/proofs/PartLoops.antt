@@ -13,8 +13,8 @@ use Rattle.stamp.specs.declared.Timeout.{Timeout}
 use Rattle.stamp.specs.Stamp.{isExpired}
 use Rattle.flows.specs.declared.Flow.{Flow}
 use Rattle.flows.specs.Table.{noFlow, flowTimeout, fadedFlow}
-use Rattle.reassemble.specs.declared.Reassembler.{Reassembler}
-use Rattle.reassemble.specs.Slot.{blankSlot, slotTimeout, fadedSlot}
+use Rattle.slot.specs.declared.Reassembler.{Reassembler}
+use Rattle.slot.specs.Slot.{blankSlot, slotTimeout, fadedSlot}
 use Rattle.state.specs.declared.Sizes.{Sizes}
 use Rattle.state.specs.Layout.{size, flowCount}
 use Rattle.state.specs.Stack.{Stack, stackOf, Kept, Becomes}

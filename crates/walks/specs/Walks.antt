@@ -10,8 +10,8 @@ use Rattle.stamp.specs.declared.Timeout.{Timeout}
 use Rattle.stamp.specs.Stamp.{next, isExpired, soonerOf}
 use Rattle.flows.specs.declared.Flow.{Flow}
 use Rattle.flows.specs.Table.{flowTimeout}
-use Rattle.reassemble.specs.declared.Reassembler.{Reassembler}
-use Rattle.reassemble.specs.Slot.{slotTimeout}
+use Rattle.slot.specs.declared.Reassembler.{Reassembler}
+use Rattle.slot.specs.Slot.{slotTimeout}
 use Rattle.state.specs.Head.{renowed}
 use Rattle.state.specs.Stack.{Stack, rehead}
 use Rattle.walks.specs.declared.Check.{Check}

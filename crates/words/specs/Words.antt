@@ -1,6 +1,6 @@
 -- Records as rows of 64-bit numbers, for callers that hold only numbers: a send, a fragmenter, a handle, a message.
 -- A yes or no is written 1 or 0, and any number but 0 is read as yes.
--- Leans on the records of `mctp`, `fragment`, `sending`, `receiving` and `handling`.
+-- Leans on the records of `mctp`, `fragment`, `sending`, `concluding` and `handling`.
 use Prim.Native.Nat.{ℕ, _%_}
 use mathlib.Core.Bool.{Bool, true, false}
 use mathlib.Core.List.{List, [], _∷_}
@@ -12,7 +12,7 @@ use Rattle.mctp.specs.declared.Cookie.{Cookie}
 use Rattle.mctp.specs.declared.Cookie.the-variants.{Absent, Given}
 use Rattle.mctp.specs.Terms.{tagOf, isOwner, tagUnder, cookieNo, cookieValue}
 use Rattle.fragment.specs.declared.Fragmenter.{Fragmenter}
-use Rattle.receiving.specs.declared.ReceiveHandle.{ReceiveHandle}
+use Rattle.concluding.specs.declared.ReceiveHandle.{ReceiveHandle}
 use Rattle.handling.specs.declared.Message.{Message}
 use Rattle.sending.specs.declared.Send.{Send}
 use Rattle.sending.specs.declared.SendTag.{SendTag}

@@ -1,9 +1,10 @@
 // Records as rows of 64-bit numbers: a send, a fragmenter, a message, a handle.
 // A yes or no is 1 or 0, and any number but 0 is yes. Definitions: specs/Words.antt.
-// Leans on `mctp`, `fragment`, `sending`, `receiving` and `handling` for the records.
+// Leans on `mctp`, `fragment`, `sending`, `concluding` and `handling` for the records.
 ghost use mathlib.Core.Path.{_≡_};
 ghost use Prim.Native.Nat.{_≤_, _<_};
 ghost use Rattle.words.specs.Words.{flagWord, isYes, narrow, tagFrom, cookieFrom, wordsOf, advancedRow, fragmenterOf, handleWords, messageWords, lawful, sendOf, sendTagFrom, sendMtuFrom};
+use concluding::ReceiveHandle;
 use fragment::Fragmenter;
 use handling::Message;
 use mctp::AppCookie;
@@ -13,7 +14,6 @@ use mctp::MsgIC;
 use mctp::MsgType;
 use mctp::Tag;
 use mctp::TagValue;
-use receiving::ReceiveHandle;
 use sending::Send;
 use sending::SendMtu;
 use sending::SendTag;

@@ -7,11 +7,11 @@ use denote.Ref.{now}
 use borrow.Author.Tests.{lt-ltb, le-ltb}
 use borrow.Author.Needs.{needs}
 use Rattle.octets.specs.Pick.{pick}
-use Rattle.reassemble.specs.declared.Reassembler.{Reassembler}
+use Rattle.slot.specs.declared.Reassembler.{Reassembler}
 use Rattle.state.proofs.StackLaws.{slots-length}
 use Rattle.handling.specs.Handles.{fetchOf, messageIn}
 use Rattle.handling.specs.declared.Fetched.the-variants.{Message as Fetch}
-use Rattle.receiving.proofs.SizeLaws.{pool-fits}
+use Rattle.state.proofs.SizeLaws.{pool-fits}
 use Rattle.handling.proofs.HandleLaws.{good-in}
 use Rattle.handling.proofs.fetch_message.Statement.{statement}
 use Rattle.handling.proofs.fetch_message.Tie as tie

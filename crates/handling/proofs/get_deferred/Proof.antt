@@ -8,8 +8,8 @@ use borrow.Author.Needs.{needs}
 use Rattle.octets.specs.Pick.{pick}
 use Rattle.mctp.specs.Terms.{tagOf, isOwner}
 use Rattle.mctp.specs.declared.TagValue.{TagValue}
-use Rattle.reassemble.specs.Search.{earliest}
-use Rattle.reassemble.specs.Slot.{keptUnder}
+use Rattle.slot.specs.Search.{earliest}
+use Rattle.slot.specs.Slot.{keptUnder}
 use Rattle.state.specs.Stack.{stackOf}
 use Rattle.state.proofs.StackLaws.{stays}
 use Rattle.handling.specs.Handles.{bySourceOf}

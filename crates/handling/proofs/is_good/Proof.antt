@@ -4,8 +4,8 @@ use denote.Ref.{now}
 use borrow.Author.Tests.{lt-ltb, le-ltb}
 use borrow.Author.Needs.{needs}
 use Rattle.octets.specs.Pick.{pick}
-use Rattle.reassemble.specs.Slot.{handleIs}
-use Rattle.reassemble.specs.declared.Reassembler.{Reassembler}
+use Rattle.slot.specs.Slot.{handleIs}
+use Rattle.slot.specs.declared.Reassembler.{Reassembler}
 use Rattle.state.proofs.StackLaws.{slots-length}
 use Rattle.handling.specs.Handles.{isGood}
 use Rattle.handling.proofs.is_good.Statement.{statement}

@@ -3,8 +3,8 @@ use mathlib.Core.Path.{ap, _∙_}
 use denote.Ref.{now}
 use borrow.Author.Needs.{needs}
 use lib.Dec.{lit<}
-use Rattle.reassemble.specs.Slot.{restated}
-use Rattle.reassemble.specs.declared.State.the-variants.{Done as Kept}
+use Rattle.slot.specs.Slot.{restated}
+use Rattle.slot.specs.declared.State.the-variants.{Done as Kept}
 use Rattle.handling.proofs.HandleLaws.{handled-at, restated-ok}
 use Rattle.handling.proofs.return_handle.Statement.{statement}
 use Rattle.handling.proofs.return_handle.Tie as tie

@@ -2,7 +2,7 @@
 use mathlib.Core.Path.{ap, _∙_}
 use denote.Ref.{now}
 use borrow.Author.Needs.{needs}
-use Rattle.reassemble.specs.Slot.{recookied}
+use Rattle.slot.specs.Slot.{recookied}
 use Rattle.walks.proofs.Cookies.{cookie-fits}
 use Rattle.handling.proofs.HandleLaws.{handled-at, recookied-ok}
 use Rattle.handling.proofs.set_cookie.Statement.{statement}

@@ -2,10 +2,10 @@
 use mathlib.Core.Path.{ap, _∙_}
 use denote.Ref.{now}
 use borrow.Author.Needs.{needs}
-use Rattle.reassemble.specs.Slot.{restated}
-use Rattle.reassemble.specs.declared.Reassembler.{Reassembler}
-use Rattle.reassemble.specs.declared.State.the-variants.{HandleOut}
-use Rattle.receiving.specs.Receive.{nextIssue}
+use Rattle.slot.specs.Slot.{restated}
+use Rattle.slot.specs.declared.Reassembler.{Reassembler}
+use Rattle.slot.specs.declared.State.the-variants.{HandleOut}
+use Rattle.concluding.specs.Conclude.{nextIssue}
 use Rattle.handling.proofs.HandleLaws.{restated-ok, taken, not-taken}
 use Rattle.handling.proofs.take.Statement.{statement}
 use Rattle.handling.proofs.take.Tie as tie

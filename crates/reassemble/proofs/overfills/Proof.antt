@@ -6,7 +6,7 @@ use mathlib.Core.Bool.{true}
 use lib.Dec.{ltb}
 use borrow.Author.Needs.{needs}
 use borrow.Author.Tests.{lt-ltb}
-use Rattle.reassemble.proofs.Searches.{same-ltb}
+use Rattle.slot.proofs.Searches.{same-ltb}
 use Rattle.reassemble.proofs.overfills.Statement.{statement}
 use Rattle.reassemble.proofs.overfills.Tie as tie
 

@@ -3,7 +3,7 @@ use denote.Ref.{now}
 use borrow.Author.Needs.{needs}
 use Rattle.octets.proofs.Tests.{picks}
 use Rattle.reassemble.specs.Enter.{enter}
-use Rattle.reassemble.proofs.Searches.{told-plan}
+use Rattle.reassemble.proofs.Entries.{told-plan}
 use Rattle.reassemble.proofs.receive.Statement.{statement}
 use Rattle.reassemble.proofs.receive.Tie as tie
 

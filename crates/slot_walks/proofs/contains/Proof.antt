@@ -11,7 +11,7 @@ use borrow.Author.Needs.{needs}
 use borrow.Author.Tests.{eq-eqb, ne-eqb}
 use Rattle.octets.specs.Pick.{pick-true, pick-false}
 use Rattle.mctp.specs.declared.Cookie.the-variants.{Given}
-use Rattle.reassemble.specs.Slot.{listed}
+use Rattle.slot.specs.Slot.{listed}
 use Rattle.slot_walks.proofs.contains.Statement.{statement}
 use Rattle.slot_walks.proofs.contains.Tie as tie
 

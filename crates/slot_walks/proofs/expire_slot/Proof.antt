@@ -1,6 +1,6 @@
 -- `expire_slot` asks the time once: expired, the slot is blank, else it is as it was.
 use mathlib.Core.Path.{sym, subst}
-use Rattle.reassemble.specs.declared.Reassembler.{Reassembler}
+use Rattle.slot.specs.declared.Reassembler.{Reassembler}
 use Rattle.state.specs.Slot.{SlotOk}
 use Rattle.slot_walks.proofs.SlotChecks.{blank-ok}
 use Rattle.walks.proofs.PartLoops.{timedSlots, expire-gone, expire-stays}

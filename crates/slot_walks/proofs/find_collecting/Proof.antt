@@ -10,9 +10,9 @@ use Rattle.octets.specs.Find.{find}
 use Rattle.octets.proofs.Bools.{fails}
 use Rattle.octets.proofs.Finds.{find-ext, find-none}
 use Rattle.mctp.specs.declared.Key.{Key}
-use Rattle.reassemble.specs.declared.Reassembler.{Reassembler}
-use Rattle.reassemble.specs.Slot.{blankSlot, collects}
-use Rattle.reassemble.proofs.States.{collects-key}
+use Rattle.slot.specs.declared.Reassembler.{Reassembler}
+use Rattle.slot.specs.Slot.{blankSlot, collects}
+use Rattle.slot.proofs.States.{collects-key}
 use Rattle.state.specs.declared.Sizes.{Sizes}
 use Rattle.state.specs.Slot.{wordOf, SlotOk}
 use Rattle.state.specs.Stack.{stackOf, Kept}

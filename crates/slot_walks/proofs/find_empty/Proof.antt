@@ -5,7 +5,7 @@ use denote.Ref.{now}
 use borrow.Author.Needs.{needs}
 use borrow.Author.Tests.{eq-eqb, ne-eqb}
 use Rattle.octets.specs.Find.{find}
-use Rattle.reassemble.specs.Slot.{isEmpty}
+use Rattle.slot.specs.Slot.{isEmpty}
 use Rattle.state.specs.Stack.{stackOf, slotAt}
 use Rattle.state.proofs.Words.{state-empty}
 use Rattle.slot_walks.proofs.SlotSearch.{find-here, find-on, find-end}

@@ -6,7 +6,7 @@ use Prim.Native.Nat.{ℕ}
 use denote.Ref.{now}
 use borrow.Author.Needs.{needs}
 use Rattle.mctp.specs.declared.Cookie.the-variants.{Absent}
-use Rattle.reassemble.specs.Slot.{listed}
+use Rattle.slot.specs.Slot.{listed}
 use Rattle.slot_walks.proofs.is_listed.Statement.{statement}
 use Rattle.slot_walks.proofs.is_listed.Tie as tie
 

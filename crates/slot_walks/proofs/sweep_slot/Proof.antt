@@ -1,8 +1,8 @@
 -- `sweep_slot` tests as the definition does: a slot that is no reply, or has a handle out, is as it was.
 use mathlib.Core.Path.{sym, ap, subst, _∙_}
 use denote.Ref.{now}
-use Rattle.reassemble.specs.declared.Reassembler.{Reassembler}
-use Rattle.reassemble.specs.Slot.{isReply, handleTaken}
+use Rattle.slot.specs.declared.Reassembler.{Reassembler}
+use Rattle.slot.specs.Slot.{isReply, handleTaken}
 use Rattle.state.specs.Slot.{SlotOk}
 use Rattle.state.specs.Stack.{stackOf, slotAt}
 use Rattle.walks.proofs.PartLoops.{slotPart, stored-as, same-stored}

@@ -3,7 +3,7 @@ use denote.Ref.{now}
 use native.Mathlib.Omega.{arith}
 use Prim.Native.Nat.{_<_}
 use mathlib.Core.Path.{sym, ap, subst, _∙_}
-use Rattle.reassemble.specs.declared.Reassembler.{Reassembler}
+use Rattle.slot.specs.declared.Reassembler.{Reassembler}
 use Rattle.state.specs.declared.Progress.{Progress}
 use Rattle.state.specs.Slot.{progressOf, ProgressOk}
 use Rattle.state.proofs.SlotLaws.{slot-progress}

@@ -2,7 +2,7 @@
 use denote.Ref.{now}
 use native.Mathlib.Omega.{arith}
 use mathlib.Core.Path.{sym, ap, _∙_}
-use Rattle.reassemble.specs.declared.Reassembler.{Reassembler}
+use Rattle.slot.specs.declared.Reassembler.{Reassembler}
 use Rattle.state.specs.Slot.{keyWord}
 use Rattle.state.proofs.SlotLaws.{slot-word}
 use Rattle.state.proofs.StackLaws.{slot-ok, slot-past, slot-field}

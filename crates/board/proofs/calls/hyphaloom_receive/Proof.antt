@@ -1,7 +1,7 @@
 use borrow.Author.Needs.{needs}
 use mathlib.Core.Path.{ap, _∙_}
 use denote.Ref.{now}
-use Rattle.receiving.specs.declared.Received.{Received}
+use Rattle.concluding.specs.declared.Received.{Received}
 use Rattle.answers.specs.Answers.{receivedNo, handleAfter}
 use Rattle.board.proofs.calls.hyphaloom_receive.Statement.{statement}
 use Rattle.board.proofs.calls.hyphaloom_receive.Tie as tie

@@ -1,0 +1,42 @@
+-- Document 01, "Reassembler", step 6, and "Handles": what an outcome says, the number of the handle that goes out with a whole message, and the end
+-- of a reply's flow.
+-- Leans on `reassemble` for the outcome, on `flows` for the flow's removal, on `state` for the stack.
+use Prim.Native.Nat.{ℕ, _+_}
+use mathlib.Core.List.{List}
+use lib.Dec.{ltb}
+use Rattle.octets.specs.Pick.{pick}
+use Rattle.mctp.specs.declared.Key.{Key}
+use Rattle.flows.specs.declared.Flow.{Flow}
+use Rattle.flows.specs.Table.{removed}
+use Rattle.reassemble.specs.declared.Outcome.{Outcome}
+use Rattle.reassemble.specs.declared.Outcome.the-variants.{More as Going, Whole, Freed}
+use Rattle.state.specs.Head.{reissued}
+use Rattle.state.specs.Stack.{Stack}
+use Rattle.concluding.specs.declared.ReceiveHandle.{ReceiveHandle}
+use Rattle.concluding.specs.declared.Received.{Received}
+use Rattle.concluding.specs.declared.Received.the-variants.{More, Message, Refused}
+
+-- the number of the next handle that goes out: one count for the whole stack, staying at 2^64 - 1
+unfoldable pub nextIssue : ℕ → ℕ
+nextIssue n = pick (ltb n 18446744073709551615) (n + 1) n
+
+abbrev pub saidOf : Outcome → ℕ → ℕ → Received
+saidOf Going i issue = More
+saidOf Whole i issue = Message (record { index = i; issue = issue })
+saidOf (Freed err) i issue = Refused err
+
+-- step 6: with EOM, if TO=0 the flow is removed, and if it has gone already nothing happens
+abbrev pub flowsAfter : Outcome → Key → List Flow → List Flow
+flowsAfter Going k flows = flows
+flowsAfter Whole k flows = pick (k .owner) flows (removed (k .source) (k .tag) flows)
+flowsAfter (Freed err) k flows = flows
+
+-- a handle that goes out takes the next number
+abbrev pub issueAfter : Outcome → ℕ → ℕ
+issueAfter Going n = n
+issueAfter Whole n = nextIssue n
+issueAfter (Freed err) n = n
+
+-- what a packet's outcome makes of the stack beside its slot
+abbrev pub concluded : Outcome → Key → Stack → Stack
+concluded o k st = record { head = reissued (issueAfter o (st .head .issue)) (st .head); flows = flowsAfter o k (st .flows); slots = st .slots }

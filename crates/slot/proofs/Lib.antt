@@ -1,0 +1,3 @@
+-- The laws that callers cite.
+pub mod States
+pub mod Searches
