@@ -5,7 +5,7 @@ ghost use mathlib.Core.Path.{_≡_};
 ghost use mathlib.Core.List.{map, _∷_, []};
 ghost use Prim.Native.Nat.{_+_, _≤_, _<_, _^_};
 ghost use Rattle.octets.specs.Find.{find};
-ghost use Rattle.flows.specs.Table.{isFree, flowPlace, removed, usedTags, flowTimeout, fadedFlow, insertFlow, counted as countedBy, turned, freshFlow, fixedFlow, setFlow};
+ghost use Rattle.flows.specs.Table.{isFree, flowPlace, removed, usedTags, flowTimeout, fadedFlow, insertFlow, counted as countedBy, freshFlow, fixedFlow, setFlow};
 ghost use Rattle.state.specs.Layout.{flowCount};
 ghost use Rattle.state.specs.Stack.{Kept, Becomes, stackOf, flowAt, reflow};
 ghost use Rattle.walks.specs.Walks.{renow, reflows, checkOf, flowTimes};
@@ -128,23 +128,12 @@ fn fresh_flow(state: &mut [u8], sizes: Sizes, peer: Eid, expires: bool, cookie: 
     requires { ⌜ Kept sizes (now state) ⌝ }
     ensures { λ r. ⌜ (r ≡ freshFlow peer expires cookie (tableOf (stackOf sizes (now (state .entry)))) .granted) × Becomes sizes (now (state .entry)) (now (state .exit)) (retable (freshFlow peer expires cookie (tableOf (stackOf sizes (now (state .entry)))) .table) (stackOf sizes (now (state .entry)))) ⌝ }
 {
-    let start = turn_counter(state, sizes);
+    let start = state::next_tag(state, sizes);
     let used = used_tags(state, sizes, peer);
     match flows::tags::free_tag(used, start) {
         TagFound::Free(tag) => insert_flow(state, sizes, peer, tag, expires, cookie),
         TagFound::NoneFree => Granted::Refused(Error::TagUnavailable),
     }
-}
-
-// The tag counter goes up by 1 modulo 8.
-fn turn_counter(state: &mut [u8], sizes: Sizes) -> u8
-    requires { ⌜ Kept sizes (now state) ⌝ }
-    ensures { λ r. ⌜ (r ≡ turned (tableOf (stackOf sizes (now (state .entry)))) .counter) × Becomes sizes (now (state .entry)) (now (state .exit)) (retable (turned (tableOf (stackOf sizes (now (state .entry))))) (stackOf sizes (now (state .entry)))) × (r < 8) ⌝ }
-{
-    let h = state::head_at(state, sizes);
-    let turned = h.with_next_tag();
-    state::put_head(state, sizes, turned);
-    turned.next_tag
 }
 
 // A flow under a given owned tag: one that stands is used again, unless it expires.

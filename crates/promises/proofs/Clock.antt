@@ -6,7 +6,6 @@ use mathlib.Core.List.{List}
 use Rattle.octets.specs.Pick.{pick-cases}
 use Rattle.mctp.specs.declared.Eid.{Eid}
 use Rattle.mctp.specs.declared.TagValue.{TagValue}
-use Rattle.mctp.specs.declared.Tag.{Tag}
 use Rattle.mctp.specs.declared.Tag.the-variants.{Owned, Unowned}
 use Rattle.mctp.specs.declared.Header.{Header}
 use Rattle.mctp.specs.declared.HeaderRead.{HeaderRead}
@@ -19,8 +18,6 @@ use Rattle.flows.specs.declared.Wish.{Wish}
 use Rattle.flows.specs.declared.Wish.the-variants.{Fresh as AnyTag, Fixed}
 use Rattle.flows.specs.declared.TagFound.{TagFound}
 use Rattle.flows.specs.declared.TagFound.the-variants.{Free, NoneFree}
-use Rattle.flows.specs.declared.Granted.{Granted}
-use Rattle.flows.specs.declared.Granted.the-variants.{Tag as Grant, Refused as Ungranted}
 use Rattle.flows.specs.Table.{Table, Flowed, usedTags, counted, insertFlow, turned, withTag, freshFlow, fixedFlow, setFlow}
 use Rattle.flows.specs.Tags.{freeTagOf}
 use Rattle.reassemble.specs.declared.Gate.{Gate}
@@ -28,12 +25,14 @@ use Rattle.reassemble.specs.declared.Gate.the-variants.{Shut, Pass}
 use Rattle.slot.specs.Slot.{isEmpty}
 use Rattle.slot.specs.Search.{slotFor}
 use Rattle.state.specs.Stack.{Stack, slotAt}
-use Rattle.flow_walks.specs.FlowWalks.{tableOf, retable}
+use Rattle.flow_walks.specs.FlowWalks.{tableOf}
 use Rattle.sending.specs.declared.Send.{Send}
+use Rattle.sending.specs.declared.Carried.{Carried}
+use Rattle.sending.specs.declared.Carried.the-variants.{Under, Refused as Untagged}
 use Rattle.sending.specs.declared.SendTag.{SendTag}
 use Rattle.sending.specs.declared.SendTag.the-variants.{Fresh, Given}
 use Rattle.receiving.specs.Receive.{Receipt, land, opening, gateOf, receiveAt, receiveBy, receiveOf}
-use Rattle.sending.specs.Sends.{Sent, granted, ownedSend, givenSend, tagSend, startSendOf}
+use Rattle.sending.specs.Sends.{Sent, ownedTag, givenTag, tagFor, sendAs, sendTagged, startSendOf}
 
 pub next-clock : (s : EventStamp) → next s .clock ≡ s .clock
 unfolding next
@@ -94,31 +93,31 @@ same : (st : Stack) → Same st st
 same st = record { slots = refl; clock = refl }
 
 module _ (q : Send) where
-  granted-same : (g : Granted) (st : Stack) → Same st (granted q g st .stack)
-  unfolding granted
-  granted-same (Grant tag) st = record { slots = refl; clock = refl }
-  granted-same (Ungranted err) st = same st
+  as-same : (c : Carried) (st : Stack) → Same st (sendAs q c st .stack)
+  unfolding sendAs
+  as-same (Under tag) st = record { slots = refl; clock = refl }
+  as-same (Untagged err) st = same st
 
-  owned-same : (wish : Wish) (st : Stack) → Same st (ownedSend q wish st .stack)
-  unfolding ownedSend
-  owned-same wish st =
-      let f = setFlow (q .dest) wish (q .expires) (q .cookie) (tableOf st) in
-      let g = granted-same (f .granted) (retable (f .table) st) in
-      record { slots = g .slots; clock = g .clock ∙ flow-clock (q .dest) (q .expires) (q .cookie) wish (tableOf st) }
+  owned-same : (wish : Wish) (st : Stack) → Same st (ownedTag (q .dest) wish (q .expires) (q .cookie) st .stack)
+  unfolding ownedTag
+  owned-same wish st = record { slots = refl; clock = flow-clock (q .dest) (q .expires) (q .cookie) wish (tableOf st) }
 
-  given-same : (tag : Tag) (st : Stack) → Same st (givenSend q tag st .stack)
-  unfolding givenSend
-  given-same (Owned tag) st = owned-same (Fixed tag) st
-  given-same (Unowned tag) st = record { slots = refl; clock = refl }
-
-  tag-same : (tag : SendTag) (st : Stack) → Same st (tagSend q tag st .stack)
-  unfolding tagSend
+  tag-same : (tag : SendTag) (st : Stack) → Same st (tagFor (q .dest) tag (q .expires) (q .cookie) st .stack)
+  unfolding tagFor givenTag
   tag-same Fresh st = owned-same AnyTag st
-  tag-same (Given tag) st = given-same tag st
+  tag-same (Given (Owned tag)) st = owned-same (Fixed tag) st
+  tag-same (Given (Unowned tag)) st = same st
+
+  tagged-same : (st : Stack) → Same st (sendTagged q (tagFor (q .dest) (q .tag) (q .expires) (q .cookie) st) .stack)
+  tagged-same st =
+      let t = tagFor (q .dest) (q .tag) (q .expires) (q .cookie) st in
+      let u = tag-same (q .tag) st in
+      let v = as-same (t .said) (t .stack) in
+      record { slots = v .slots ∙ u .slots; clock = v .clock ∙ u .clock }
 
   pub send-same : (st : Stack) → Same st (startSendOf q st .stack)
   unfolding startSendOf
-  send-same st = pick-cases P (λ _. same st) (λ _. pick-cases P (λ _. same st) (λ _. tag-same (q .tag) st))
+  send-same st = pick-cases P (λ _. same st) (λ _. pick-cases P (λ _. same st) (λ _. tagged-same st))
     where
       P : Sent → Type 0
       P s = Same st (s .stack)

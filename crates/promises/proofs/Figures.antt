@@ -17,14 +17,14 @@ use Rattle.fragment.specs.Run.{written}
 use Rattle.walks.specs.Walks.{leastLeft, anyExpired}
 use Rattle.concluding.specs.Conclude.{nextIssue}
 use Rattle.receiving.specs.Receive.{land, receiveAt, receiveBy, receiveOf}
-use Rattle.sending.specs.Sends.{granted, ownedSend, tagSend, startSendOf}
+use Rattle.sending.specs.Sends.{ownedTag, tagFor, sendAs, startSendOf}
 use Rattle.updating.specs.Update.{checked, updateOf}
 use Rattle.promises.specs.Calls.{step}
 use Rattle.promises.specs.Figures.{tags, table, fourLost, Given}
 
 -- the definitions give every starred figure
 pub figures : Given table
-unfolding tags pick find part over headerOf next clocked expired timeoutOf bitsOf freeTagOf isFlow newFlow insertFlow withTag freshFlow setFlow fadedFlow fadedSlot slotFor isLocal opening gate gateEmpty enter append newOf stepOf written leastLeft anyExpired nextIssue land receiveAt receiveBy receiveOf granted ownedSend tagSend startSendOf checked updateOf step
+unfolding tags pick find part over headerOf next clocked expired timeoutOf bitsOf freeTagOf isFlow newFlow insertFlow withTag freshFlow setFlow fadedFlow fadedSlot slotFor isLocal opening gate gateEmpty enter append newOf stepOf written leastLeft anyExpired nextIssue land receiveAt receiveBy receiveOf sendAs ownedTag tagFor startSendOf checked updateOf step
 figures = (refl, (refl, (refl, (refl, (refl, (refl, (refl, (refl, (refl, (refl, (refl, tt)))))))))))
 
 -- and four lost packets are not seen

@@ -28,7 +28,7 @@ use Rattle.sending.specs.declared.SendTag.the-variants.{Fresh}
 use Rattle.sending.specs.declared.SendMtu.the-variants.{Own}
 use Rattle.concluding.specs.Conclude.{nextIssue}
 use Rattle.receiving.specs.Receive.{receivedAs, land, receiveAt, receiveBy, receiveOf}
-use Rattle.sending.specs.Sends.{granted, ownedSend, tagSend, startSendOf}
+use Rattle.sending.specs.Sends.{ownedTag, tagFor, sendAs, startSendOf}
 use Rattle.updating.specs.Update.{checked, updateOf}
 use Rattle.estack.specs.Basics.{freshStack}
 use Rattle.promises.specs.Calls.{World, Call, receive, elsewhere, update, startSend, cancelFlow, finishedReceive, setEid, step, steps, receipt}
@@ -124,7 +124,7 @@ late = (receive other ∷ update 6000 ∷ []) ∷ []
 
 -- a reply whose flow stands: the flow's cookie
 pub reply-met : Met replies (0xAA ∷ 0xBB ∷ []) two late (steps 1032 (startSend query ∷ []) start) (Given (record { 0 = 77 }))
-unfolding isLocal find pick steps step startSendOf tagSend ownedSend granted setFlow freshFlow withTag insertFlow newFlow freeTagOf bitsOf isFlow next headerOf sameKey sameBool
+unfolding isLocal find pick steps step startSendOf sendAs tagFor ownedTag setFlow freshFlow withTag insertFlow newFlow freeTagOf bitsOf isFlow next headerOf sameKey sameBool
 reply-met =
     met replies (0xAA ∷ 0xBB ∷ []) two late (steps 1032 (startSend query ∷ []) start) (Given (record { 0 = 77 }))
     (record { carries = two-carried; fits = lit≤ tt; source = refl; dest = refl; begins = refl; pool = lit≤ tt; between = refl }) refl
@@ -136,13 +136,13 @@ abbrev stranded : World
 stranded = steps 1032 (startSend query ∷ update 5000 ∷ receive (0x01 ∷ 0x08 ∷ 0x09 ∷ 0xA1 ∷ 0x01 ∷ 0x77 ∷ []) ∷ update 6001 ∷ []) start
 
 flow-gone : standing (record { 0 = 9 }) (record { 0 = 1 }) (stranded .stack .flows) ≡ false
-unfolding isLocal find pick steps step startSendOf tagSend ownedSend granted setFlow freshFlow withTag insertFlow newFlow freeTagOf bitsOf isFlow next
+unfolding isLocal find pick steps step startSendOf sendAs tagFor ownedTag setFlow freshFlow withTag insertFlow newFlow freeTagOf bitsOf isFlow next
     updateOf checked clocked expired timeoutOf fadedFlow fadedSlot leastLeft receiveOf receiveBy receiveAt headerOf slotFor gate gateEmpty gateReply opening land enter append
 flow-gone = refl
 
 -- the reply begins again in that slot: the cookie that the slot has, though the flow is gone
 pub restart-met : Met replies (0xAA ∷ 0xBB ∷ []) two [] stranded (Given (record { 0 = 77 }))
-unfolding isLocal find pick steps step startSendOf tagSend ownedSend granted setFlow freshFlow withTag insertFlow newFlow freeTagOf bitsOf isFlow next
+unfolding isLocal find pick steps step startSendOf sendAs tagFor ownedTag setFlow freshFlow withTag insertFlow newFlow freeTagOf bitsOf isFlow next
     updateOf checked clocked expired timeoutOf fadedFlow fadedSlot leastLeft receiveOf receiveBy receiveAt headerOf slotFor gate gateEmpty gateReply opening land enter append sameKey sameBool over
 restart-met =
     met replies (0xAA ∷ 0xBB ∷ []) two [] stranded (Given (record { 0 = 77 }))

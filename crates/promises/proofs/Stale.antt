@@ -27,11 +27,6 @@ use Rattle.mctp.specs.declared.Error.{Error}
 use Rattle.mctp.specs.declared.Error.the-variants.{InvalidInput}
 use Rattle.mctp.specs.Terms.{normalEid, tagOf, isOwner}
 use Rattle.mctp.specs.Header.{headerOf}
-use Rattle.flows.specs.declared.Wish.{Wish}
-use Rattle.flows.specs.declared.Wish.the-variants.{Fresh as AnyTag, Fixed}
-use Rattle.flows.specs.declared.Granted.{Granted}
-use Rattle.flows.specs.declared.Granted.the-variants.{Tag as Grant, Refused as Ungranted}
-use Rattle.flows.specs.Table.{setFlow}
 use Rattle.slot.specs.declared.State.{State}
 use Rattle.slot.specs.declared.State.the-variants.{Empty, Collecting, Done, HandleOut}
 use Rattle.slot.specs.declared.Reassembler.{Reassembler}
@@ -48,18 +43,19 @@ use Rattle.stamp.specs.Stamp.{next, clocked}
 use Rattle.state.specs.Stack.{Stack, slotAt, reslot}
 use Rattle.slot_walks.specs.SlotWalks.{swept}
 use Rattle.walks.specs.Walks.{ticked, renow}
-use Rattle.flow_walks.specs.FlowWalks.{tableOf, retable}
 use Rattle.concluding.specs.declared.ReceiveHandle.{ReceiveHandle}
 use Rattle.concluding.specs.declared.Received.the-variants.{Message as Told}
 use Rattle.concluding.specs.Conclude.{nextIssue, saidOf, issueAfter}
 use Rattle.receiving.specs.Receive.{Receipt, refuse, settled, land, gateOf, receiveAt, receiveBy, receiveOf}
 use Rattle.sending.specs.declared.Send.{Send}
+use Rattle.sending.specs.declared.Carried.{Carried}
+use Rattle.sending.specs.declared.Carried.the-variants.{Under, Refused as Untagged}
 use Rattle.sending.specs.declared.SendTag.{SendTag}
 use Rattle.sending.specs.declared.SendTag.the-variants.{Fresh, Given}
 use Rattle.handling.specs.declared.Deferred.the-variants.{Found}
 use Rattle.handling.specs.Handles as handles
 use Rattle.handling.specs.Handles.{Lookup, isGood, handled, finishOf, returnOf, takeOf, bySourceOf}
-use Rattle.sending.specs.Sends.{Sent, granted, ownedSend, givenSend, tagSend, startSendOf}
+use Rattle.sending.specs.Sends.{Sent, ownedTag, givenTag, tagFor, sendAs, sendTagged, startSendOf}
 use Rattle.updating.specs.Update.{Update, checked, updateOf}
 use Rattle.estack.specs.Basics.{eidSet, cancelOf}
 use Rattle.promises.specs.Calls.{Call, receive, elsewhere, update, startSend, cancelFlow, getDeferred, getDeferredByCookie, fetchMessage, finishedReceive, returnHandle, setCookie, setEid, eid, isLocalDest, freeTags, World, step, steps, receipt}
@@ -184,26 +180,25 @@ cancel-numbers peer tag st =
 -- ---- by a send, by a new EID: the head alone
 
 module _ (q : Send) where
-  granted-count : (g : Granted) (st : Stack) → granted q g st .stack .head .issue ≡ st .head .issue
-  unfolding granted
-  granted-count (Grant tag) st = refl
-  granted-count (Ungranted err) st = refl
+  as-count : (c : Carried) (st : Stack) → sendAs q c st .stack .head .issue ≡ st .head .issue
+  unfolding sendAs
+  as-count (Under tag) st = refl
+  as-count (Untagged err) st = refl
 
-  owned-count : (wish : Wish) (st : Stack) → ownedSend q wish st .stack .head .issue ≡ st .head .issue
-  unfolding ownedSend
-  owned-count wish st =
-      let f = setFlow (q .dest) wish (q .expires) (q .cookie) (tableOf st) in
-      granted-count (f .granted) (retable (f .table) st)
-
-  tag-count : (tag : SendTag) (st : Stack) → tagSend q tag st .stack .head .issue ≡ st .head .issue
-  unfolding tagSend givenSend
-  tag-count Fresh st = owned-count AnyTag st
-  tag-count (Given (Owned tag)) st = owned-count (Fixed tag) st
+  tag-count : (tag : SendTag) (st : Stack) → tagFor (q .dest) tag (q .expires) (q .cookie) st .stack .head .issue ≡ st .head .issue
+  unfolding tagFor givenTag ownedTag
+  tag-count Fresh st = refl
+  tag-count (Given (Owned tag)) st = refl
   tag-count (Given (Unowned tag)) st = refl
+
+  tagged-count : (st : Stack) → sendTagged q (tagFor (q .dest) (q .tag) (q .expires) (q .cookie) st) .stack .head .issue ≡ st .head .issue
+  tagged-count st =
+      let t = tagFor (q .dest) (q .tag) (q .expires) (q .cookie) st in
+      as-count (t .said) (t .stack) ∙ tag-count (q .tag) st
 
   send-count : (st : Stack) → startSendOf q st .stack .head .issue ≡ st .head .issue
   unfolding startSendOf
-  send-count st = pick-cases P (λ _. refl) (λ _. pick-cases P (λ _. refl) (λ _. tag-count (q .tag) st))
+  send-count st = pick-cases P (λ _. refl) (λ _. pick-cases P (λ _. refl) (λ _. tagged-count st))
     where
       P : Sent → Type 0
       P s = s .stack .head .issue ≡ st .head .issue

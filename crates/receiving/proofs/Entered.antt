@@ -7,7 +7,7 @@ use mathlib.Core.Bool.{Bool, true}
 use mathlib.Core.List.{List, _++_}
 use lib.ListN.{length, getD, take, drop, length-drop}
 use lib.Seq.{take-all}
-use borrow.Author.Tests.{ltb-true, ltb-false}
+use borrow.Author.Tests.{ltb-false}
 use Rattle.octets.specs.Pick.{pick-cases}
 use Rattle.octets.specs.Bytes.{over, lay}
 use Rattle.octets.proofs.Part.{lent-front, lay-front}

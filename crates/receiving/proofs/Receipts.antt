@@ -11,7 +11,6 @@ use Rattle.octets.specs.Find.{find}
 use Rattle.octets.proofs.Part.{over-nil}
 use Rattle.octets.proofs.Finds.{find-hit}
 use Rattle.octets.proofs.Bools.{no-both}
-use Rattle.mctp.specs.declared.Key.{Key}
 use Rattle.mctp.specs.declared.Cookie.{Cookie}
 use Rattle.mctp.specs.declared.Cookie.the-variants.{Absent}
 use Rattle.mctp.specs.declared.Header.{Header}
@@ -28,8 +27,6 @@ use Rattle.flows.specs.Table.{standing, flowCookie, flowPlace}
 use Rattle.slot.specs.declared.State.{State}
 use Rattle.slot.specs.declared.State.the-variants.{Empty, Collecting, Done, HandleOut}
 use Rattle.slot.specs.declared.Reassembler.{Reassembler}
-use Rattle.reassemble.specs.declared.Outcome.{Outcome}
-use Rattle.reassemble.specs.declared.Outcome.the-variants.{Whole}
 use Rattle.reassemble.specs.declared.Entry.{Entry}
 use Rattle.reassemble.specs.declared.Gate.{Gate}
 use Rattle.reassemble.specs.declared.Gate.the-variants.{Shut, Pass}
@@ -37,11 +34,9 @@ use Rattle.slot.specs.Slot.{blankSlot, isEmpty, emptyState, collects, collectsI
 use Rattle.slot.specs.Search.{slotFor}
 use Rattle.reassemble.specs.Enter.{gate, gateEmpty, gateReply, enter}
 use Rattle.state.specs.declared.Sizes.{Sizes}
-use Rattle.state.specs.Head.{reissued}
-use Rattle.state.specs.Stack.{Stack, Becomes, stackOf, slotAt, rehead}
+use Rattle.state.specs.Stack.{Stack, Becomes, stackOf, slotAt}
 use Rattle.state.proofs.StackLaws.{andThen}
-use Rattle.walks.specs.Walks.{ticked, reflows}
-use Rattle.state.proofs.Steps.{becomes-as}
+use Rattle.walks.specs.Walks.{ticked}
 use Rattle.concluding.specs.declared.Received.{Received}
 use Rattle.concluding.specs.declared.Received.the-variants.{Refused}
 use Rattle.concluding.specs.Conclude.{nextIssue}

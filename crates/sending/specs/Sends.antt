@@ -2,12 +2,13 @@
 -- modulo 4; then the smaller MTU, outside 5 to 255: BadArgument, with flow and sequence as they now are.
 -- Leans on `flows` for the table's part, on `fragment` for the fragmenter that comes out.
 use Prim.Native.Nat.{ℕ, min}
-use mathlib.Core.Bool.{Bool, true, false}
+use mathlib.Core.Bool.{Bool, false}
 use lib.Dec.{ltb}
 use Rattle.octets.specs.Pick.{pick}
+use Rattle.mctp.specs.declared.Cookie.{Cookie}
+use Rattle.mctp.specs.declared.Eid.{Eid}
 use Rattle.mctp.specs.declared.Tag.{Tag}
 use Rattle.mctp.specs.declared.Tag.the-variants.{Owned, Unowned}
-use Rattle.mctp.specs.declared.TagValue.{TagValue}
 use Rattle.mctp.specs.declared.Error.the-variants.{InvalidInput}
 use Rattle.mctp.specs.Terms.{tagOf}
 use Rattle.flows.specs.declared.Wish.{Wish}
@@ -21,6 +22,8 @@ use Rattle.fragment.specs.Step.{newOf}
 use Rattle.state.specs.Head.{resequenced}
 use Rattle.state.specs.Stack.{Stack, rehead}
 use Rattle.flow_walks.specs.FlowWalks.{tableOf, retable}
+use Rattle.sending.specs.declared.Carried.{Carried}
+use Rattle.sending.specs.declared.Carried.the-variants.{Under, Refused as Untagged}
 use Rattle.sending.specs.declared.Send.{Send}
 use Rattle.sending.specs.declared.SendTag.{SendTag}
 use Rattle.sending.specs.declared.SendTag.the-variants.{Fresh, Given}
@@ -51,26 +54,40 @@ sendUnder q tag st = record {
   said = newOf (q .typ) (st .head .«own_eid») (q .dest) tag (mtuOf (q .mtu) (st .head .mtu)) (q .cookie) (q .ic) (resequenced (st .head) .«next_seq»);
 }
 
--- an owned tag: the flow first, and a refusal of it ends the send
-unfoldable pub granted : Send → Granted → Stack → Sent
-granted q (Grant tag) st = sendUnder q (Owned tag) st
-granted q (Ungranted err) st = unsent st (Refused err)
+-- the tag that a message goes out under, or why there is none, and the stack then
+pub record Tagged : Type 0 where
+  pub stack : Stack
+  pub said : Carried
 
-unfoldable pub ownedSend : Send → Wish → Stack → Sent
-ownedSend q wish st =
-    granted q (setFlow (q .dest) wish (q .expires) (q .cookie) (tableOf st) .granted)
-    (retable (setFlow (q .dest) wish (q .expires) (q .cookie) (tableOf st) .table) st)
+abbrev pub carriedBy : Granted → Carried
+carriedBy (Grant tag) = Under (Owned tag)
+carriedBy (Ungranted err) = Untagged err
+
+-- for an owned tag, the flow
+unfoldable pub ownedTag : Eid → Wish → Bool → Cookie → Stack → Tagged
+ownedTag dest wish expires cookie st = record {
+  stack = retable (setFlow dest wish expires cookie (tableOf st) .table) st;
+  said = carriedBy (setFlow dest wish expires cookie (tableOf st) .granted);
+}
 
 -- the other side's tag needs no flow
-unfoldable pub givenSend : Send → Tag → Stack → Sent
-givenSend q (Owned tag) st = ownedSend q (Fixed tag) st
-givenSend q (Unowned tag) st = sendUnder q (Unowned tag) st
+unfoldable pub givenTag : Eid → Tag → Bool → Cookie → Stack → Tagged
+givenTag dest (Owned tag) expires cookie st = ownedTag dest (Fixed tag) expires cookie st
+givenTag dest (Unowned tag) expires cookie st = record { stack = st; said = Under (Unowned tag) }
 
-unfoldable pub tagSend : Send → SendTag → Stack → Sent
-tagSend q Fresh st = ownedSend q AnyTag st
-tagSend q (Given tag) st = givenSend q tag st
+unfoldable pub tagFor : Eid → SendTag → Bool → Cookie → Stack → Tagged
+tagFor dest Fresh expires cookie st = ownedTag dest AnyTag expires cookie st
+tagFor dest (Given tag) expires cookie st = givenTag dest tag expires cookie st
+
+-- under the tag that there is; a refusal of the flow ends the send
+unfoldable pub sendAs : Send → Carried → Stack → Sent
+sendAs q (Under tag) st = sendUnder q tag st
+sendAs q (Untagged err) st = unsent st (Refused err)
+
+abbrev pub sendTagged : Send → Tagged → Sent
+sendTagged q t = sendAs q (t .said) (t .stack)
 
 unfoldable pub startSendOf : Send → Stack → Sent
 startSendOf q st =
     pick (ltb 127 (q .typ .0)) (unsent st (Refused InvalidInput))
-    (pick (badTag (q .tag)) (unsent st (Refused InvalidInput)) (tagSend q (q .tag) st))
+    (pick (badTag (q .tag)) (unsent st (Refused InvalidInput)) (sendTagged q (tagFor (q .dest) (q .tag) (q .expires) (q .cookie) st)))

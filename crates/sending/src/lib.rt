@@ -4,7 +4,7 @@
 ghost use mathlib.Core.Path.{_≡_};
 ghost use Prim.Native.Nat.{min};
 ghost use Rattle.state.specs.Stack.{Kept, Becomes, stackOf};
-ghost use Rattle.sending.specs.Sends.{badTag, mtuOf, sendUnder, ownedSend, givenSend, startSendOf};
+ghost use Rattle.sending.specs.Sends.{badTag, mtuOf, sendUnder, ownedTag, givenTag, tagFor, startSendOf};
 use flows::Granted;
 use flows::Wish;
 use fragment::Fragmenter;
@@ -39,6 +39,12 @@ pub struct Send {
     pub cookie: Cookie,
 }
 
+// The tag that a message goes out under, or why there is none.
+pub enum Carried {
+    Under(Tag),
+    Refused(Error),
+}
+
 fn mtu_for(mtu: SendMtu, own: usize) -> usize
     ensures { λ r. ⌜ r ≡ mtuOf mtu own ⌝ }
 {
@@ -62,44 +68,65 @@ fn send_under(state: &mut [u8], sizes: Sizes, send: Send, tag: Tag) -> Started
     requires { ⌜ Kept sizes (now state) ⌝ }
     ensures { λ r. ⌜ (r ≡ sendUnder send tag (stackOf sizes (now (state .entry))) .said) × Becomes sizes (now (state .entry)) (now (state .exit)) (sendUnder send tag (stackOf sizes (now (state .entry))) .stack) ⌝ }
 {
-    let h = state::head_at(state, sizes);
-    let next = h.with_next_seq();
-    state::put_head(state, sizes, next);
+    let own = state::own_eid(state, sizes);
     let m = send.mtu;
-    let mtu = mtu_for(m, h.mtu);
+    let mtu = mtu_for(m, state::mtu_at(state, sizes));
+    let seq = state::next_seq(state, sizes);
     let cookie = send.cookie;
-    Fragmenter::new(
-        send.typ,
-        h.own_eid,
-        send.dest,
-        tag,
-        mtu,
-        cookie,
-        send.ic,
-        next.next_seq,
-    )
+    Fragmenter::new(send.typ, own, send.dest, tag, mtu, cookie, send.ic, seq)
 }
 
-// Under a tag of our own: the flow first.
-fn owned_send(state: &mut [u8], sizes: Sizes, send: Send, wish: Wish) -> Started
+// A tag of our own: its flow is set.
+fn owned_tag(
+    state: &mut [u8],
+    sizes: Sizes,
+    dest: Eid,
+    wish: Wish,
+    expires: bool,
+    cookie: Cookie,
+) -> Carried
     requires { ⌜ Kept sizes (now state) ⌝ }
-    ensures { λ r. ⌜ (r ≡ ownedSend send wish (stackOf sizes (now (state .entry))) .said) × Becomes sizes (now (state .entry)) (now (state .exit)) (ownedSend send wish (stackOf sizes (now (state .entry))) .stack) ⌝ }
+    ensures { λ r. ⌜ (r ≡ ownedTag dest wish expires cookie (stackOf sizes (now (state .entry))) .said) × Becomes sizes (now (state .entry)) (now (state .exit)) (ownedTag dest wish expires cookie (stackOf sizes (now (state .entry))) .stack) ⌝ }
 {
-    let cookie = send.cookie;
-    let granted = flow_walks::set_flow(state, sizes, send.dest, wish, send.expires, cookie);
+    let granted = flow_walks::set_flow(state, sizes, dest, wish, expires, cookie);
     match granted {
-        Granted::Tag(t) => send_under(state, sizes, send, Tag::Owned(t)),
-        Granted::Refused(err) => Started::Refused(err),
+        Granted::Tag(t) => Carried::Under(Tag::Owned(t)),
+        Granted::Refused(err) => Carried::Refused(err),
     }
 }
 
-fn given_send(state: &mut [u8], sizes: Sizes, send: Send, tag: Tag) -> Started
+fn given_tag(
+    state: &mut [u8],
+    sizes: Sizes,
+    dest: Eid,
+    tag: Tag,
+    expires: bool,
+    cookie: Cookie,
+) -> Carried
     requires { ⌜ Kept sizes (now state) ⌝ }
-    ensures { λ r. ⌜ (r ≡ givenSend send tag (stackOf sizes (now (state .entry))) .said) × Becomes sizes (now (state .entry)) (now (state .exit)) (givenSend send tag (stackOf sizes (now (state .entry))) .stack) ⌝ }
+    ensures { λ r. ⌜ (r ≡ givenTag dest tag expires cookie (stackOf sizes (now (state .entry))) .said) × Becomes sizes (now (state .entry)) (now (state .exit)) (givenTag dest tag expires cookie (stackOf sizes (now (state .entry))) .stack) ⌝ }
 {
     match tag {
-        Tag::Owned(t) => owned_send(state, sizes, send, Wish::Fixed(t)),
-        Tag::Unowned(_) => send_under(state, sizes, send, tag),
+        Tag::Owned(t) => owned_tag(state, sizes, dest, Wish::Fixed(t), expires, cookie),
+        Tag::Unowned(_) => Carried::Under(tag),
+    }
+}
+
+// The tag that a send asks for.
+fn tag_for(
+    state: &mut [u8],
+    sizes: Sizes,
+    dest: Eid,
+    tag: SendTag,
+    expires: bool,
+    cookie: Cookie,
+) -> Carried
+    requires { ⌜ Kept sizes (now state) ⌝ }
+    ensures { λ r. ⌜ (r ≡ tagFor dest tag expires cookie (stackOf sizes (now (state .entry))) .said) × Becomes sizes (now (state .entry)) (now (state .exit)) (tagFor dest tag expires cookie (stackOf sizes (now (state .entry))) .stack) ⌝ }
+{
+    match tag {
+        SendTag::Fresh => owned_tag(state, sizes, dest, Wish::Fresh, expires, cookie),
+        SendTag::Given(t) => given_tag(state, sizes, dest, t, expires, cookie),
     }
 }
 
@@ -116,8 +143,10 @@ pub fn start_send(state: &mut [u8], sizes: Sizes, send: Send) -> Started
     if bad {
         return Started::Refused(Error::InvalidInput);
     }
-    match tag {
-        SendTag::Fresh => owned_send(state, sizes, send, Wish::Fresh),
-        SendTag::Given(t) => given_send(state, sizes, send, t),
+    let cookie = send.cookie;
+    let carried = tag_for(state, sizes, send.dest, tag, send.expires, cookie);
+    match carried {
+        Carried::Under(t) => send_under(state, sizes, send, t),
+        Carried::Refused(err) => Started::Refused(err),
     }
 }

@@ -8,7 +8,7 @@ use Rattle.octets.proofs.Number.{num-le, top}
 use Rattle.octets.proofs.Region.{Lawful}
 use Rattle.state.specs.declared.Head.{Head}
 use Rattle.state.specs.Layout.{headWidth}
-use Rattle.state.specs.Head.{headBytes, headOf, HeadOk, headCodec, recounted, reissued}
+use Rattle.state.specs.Head.{headBytes, headOf, HeadOk, headCodec, recounted, retagged, resequenced, reissued}
 
 pub head-long : (h : Head) → length (headBytes h) ≡ headWidth
 unfolding headBytes pack le
@@ -52,6 +52,20 @@ counter-bytes n h = refl
 
 pub counter-ok : (n : ℕ) (h : Head) → n < 2 ^ 32 → HeadOk h → HeadOk (recounted n h)
 counter-ok n h l ok = record { own = ok .own; tag = ok .tag; seq = ok .seq; counter = l; clock = ok .clock; planned = ok .planned; issue = ok .issue; mtu = ok .mtu; soon = ok .soon }
+
+pub tag-bytes : (n : ℕ) (h : Head) → lay 1 (le 1 n) (headBytes h) ≡ headBytes (retagged n h)
+unfolding headBytes pack le lay
+tag-bytes n h = refl
+
+pub tag-ok : (n : ℕ) (h : Head) → n < 8 → HeadOk h → HeadOk (retagged n h)
+tag-ok n h l ok = record { own = ok .own; tag = l; seq = ok .seq; counter = ok .counter; clock = ok .clock; planned = ok .planned; issue = ok .issue; mtu = ok .mtu; soon = ok .soon }
+
+pub seq-bytes : (h : Head) → lay 2 (le 2 (resequenced h .«next_seq»)) (headBytes h) ≡ headBytes (resequenced h)
+unfolding headBytes pack le lay
+seq-bytes h = refl
+
+pub seq-ok : (h : Head) → HeadOk h → HeadOk (resequenced h)
+seq-ok h ok = record { own = ok .own; tag = ok .tag; seq = omega arith; counter = ok .counter; clock = ok .clock; planned = ok .planned; issue = ok .issue; mtu = ok .mtu; soon = ok .soon }
 
 pub issue-bytes : (n : ℕ) (h : Head) → lay 24 (le 8 n) (headBytes h) ≡ headBytes (reissued n h)
 unfolding headBytes pack le lay

@@ -97,28 +97,6 @@ impl Head {
         let own = self.own_eid;
         self.with(own, stamp, planned, self.next_tag, self.next_seq)
     }
-
-    // The tag counter goes up by 1 modulo 8.
-    pub fn with_next_tag(self) -> Head
-        requires { ⌜ HeadOk self ⌝ }
-        ensures { λ r. ⌜ (r ≡ retagged ((self .«next_tag» % 8 + 1) % 8) self) × HeadOk r ⌝ }
-    {
-        let own = self.own_eid;
-        let stamp = self.now;
-        let tag = (self.next_tag % 8 + 1) % 8;
-        self.with(own, stamp, self.next_timeout, tag, self.next_seq)
-    }
-
-    // The sequence goes up by 1 modulo 4.
-    pub fn with_next_seq(self) -> Head
-        requires { ⌜ HeadOk self ⌝ }
-        ensures { λ r. ⌜ (r ≡ resequenced self) × HeadOk r ⌝ }
-    {
-        let own = self.own_eid;
-        let stamp = self.now;
-        let seq = (self.next_seq % 4 + 1) % 4;
-        self.with(own, stamp, self.next_timeout, self.next_tag, seq)
-    }
 }
 
 // ---- a head in 40 bytes
@@ -342,6 +320,33 @@ pub fn put_counter(state: &mut [u8], sizes: Sizes, counter: u32)
     ensures { λ _. ⌜ Becomes sizes (now (state .entry)) (now (state .exit)) (rehead (recounted counter (stackOf sizes (now (state .entry)) .head)) (stackOf sizes (now (state .entry)))) ⌝ }
 {
     put4(&mut state[0..HEAD_WIDTH], 4, counter);
+}
+
+pub fn mtu_at(state: &[u8], sizes: Sizes) -> usize
+    requires { ⌜ Kept sizes (now state) ⌝ }
+    ensures { λ r. ⌜ r ≡ stackOf sizes (now (state .entry)) .head .mtu ⌝ }
+{
+    get8(&state[0..HEAD_WIDTH], 32) as usize
+}
+
+// The tag counter goes up by 1 modulo 8: what it is then.
+pub fn next_tag(state: &mut [u8], sizes: Sizes) -> u8
+    requires { ⌜ Kept sizes (now state) ⌝ }
+    ensures { λ r. ⌜ (r ≡ (stackOf sizes (now (state .entry)) .head .«next_tag» % 8 + 1) % 8) × Becomes sizes (now (state .entry)) (now (state .exit)) (rehead (retagged ((stackOf sizes (now (state .entry)) .head .«next_tag» % 8 + 1) % 8) (stackOf sizes (now (state .entry)) .head)) (stackOf sizes (now (state .entry)))) ⌝ }
+{
+    let tag = (get1(&state[0..HEAD_WIDTH], 1) % 8 + 1) % 8;
+    put1(&mut state[0..HEAD_WIDTH], 1, tag);
+    tag
+}
+
+// The sequence goes up by 1 modulo 4: what it is then.
+pub fn next_seq(state: &mut [u8], sizes: Sizes) -> u8
+    requires { ⌜ Kept sizes (now state) ⌝ }
+    ensures { λ r. ⌜ (r ≡ resequenced (stackOf sizes (now (state .entry)) .head) .«next_seq») × Becomes sizes (now (state .entry)) (now (state .exit)) (rehead (resequenced (stackOf sizes (now (state .entry)) .head)) (stackOf sizes (now (state .entry)))) ⌝ }
+{
+    let seq = (get1(&state[0..HEAD_WIDTH], 2) % 4 + 1) % 4;
+    put2(&mut state[0..HEAD_WIDTH], 2, seq as u16);
+    seq
 }
 
 pub fn issue_at(state: &[u8], sizes: Sizes) -> u64

@@ -15,8 +15,8 @@ use borrow.Author.Needs.{needs}
 use Rattle.flow_walks.proofs.fresh_flow.Statement.{statement}
 use Rattle.flow_walks.proofs.fresh_flow.Tie as tie
 
-turn-counter-requires : tie.Need-turn-counter-requires
-turn-counter-requires c κs = search needs
+next-tag-requires : tie.Need-next-tag-requires
+next-tag-requires c κs = search needs
 
 used-tags-requires : tie.Need-used-tags-requires
 used-tags-requires c κs = search needs
@@ -30,7 +30,7 @@ enum-known-tag c = search needs
 insert-flow-requires : tie.Need-insert-flow-requires
 insert-flow-requires c κs =
     let k = c .before .before .tag .given in
-    (c .before .before .before .before .before .before .before .before .before .turn-counter .ensures .1 .kept, free-small _ _ (k .0 .0) (sym (c .before .before .before .before .free-tag .ensures) ∙ k .1))
+    (c .before .before .before .before .before .before .before .before .before .next-tag .ensures .1 .kept, free-small _ _ (k .0 .0) (sym (c .before .before .before .before .free-tag .ensures) ∙ k .1))
 
 enum-told : tie.Need-enum-told
 enum-told c = search needs
@@ -44,9 +44,9 @@ returns c =
     let z = a .sizes in
     let b = now (a .state) in
     let st = stackOf z b in
-    let t = c .before .before .before .before .before .before .before .before .before .before .before .before .turn-counter in
+    let t = c .before .before .before .before .before .before .before .before .before .before .before .before .next-tag in
     let used = c .before .before .before .before .before .before .before .before .used-tags .ensures ∙ ap (λ (x : Stack). usedTags (a .peer) (x .flows)) (t .ensures .1 .view) in
-    let small : t .result % 8 ≡ t .result = omega (arith, t .ensures .2) in
+    let small : t .result % 8 ≡ t .result = omega (arith, t .ensures .0) in
     let told = c .before .before .before .before .before .before .before .free-tag .ensures ∙ ap (λ (k : ℕ). freeTagOf (c .before .before .before .before .before .before .before .before .used-tags .result) k) small ∙ ap (λ (u : ℕ). freeTagOf u (t .result)) used ∙ ap (λ (k : ℕ). freeTagOf (usedTags (a .peer) (st .flows)) k) (t .ensures .0) in
     let found = sym told ∙ c .before .before .before .before .before .tag .given .1 in
     let p = c .before .before .insert-flow in
@@ -64,9 +64,9 @@ returns-2 c =
     let z = a .sizes in
     let b = now (a .state) in
     let st = stackOf z b in
-    let t = c .before .before .before .before .before .before .before .turn-counter in
+    let t = c .before .before .before .before .before .before .before .next-tag in
     let used = c .before .before .before .used-tags .ensures ∙ ap (λ (x : Stack). usedTags (a .peer) (x .flows)) (t .ensures .1 .view) in
-    let small : t .result % 8 ≡ t .result = omega (arith, t .ensures .2) in
+    let small : t .result % 8 ≡ t .result = omega (arith, t .ensures .0) in
     let told = c .before .before .free-tag .ensures ∙ ap (λ (k : ℕ). freeTagOf (c .before .before .before .used-tags .result) k) small ∙ ap (λ (u : ℕ). freeTagOf u (t .result)) used ∙ ap (λ (k : ℕ). freeTagOf (usedTags (a .peer) (st .flows)) k) (t .ensures .0) in
     let found = sym told ∙ c .enum-told .given .1 in
     sent-as z b (t .last .0) st (Refused TagUnavailable) _ _ (sym (fresh-none (a .peer) (a .expires) (a .cookie) (tableOf st) found)) (refl, t .ensures .1)
@@ -75,7 +75,7 @@ pub fresh-flow-spec : {M : Type 1} → statement M
 fresh-flow-spec =
     tie.close
     (tie.spec
-    turn-counter-requires
+    next-tag-requires
     used-tags-requires
     free-tag-requires
     enum-known-tag

@@ -1,19 +1,19 @@
--- `send_under` stores the head with the next sequence, and starts a fragmenter under it.
+-- `send_under` takes the next sequence, and starts a fragmenter under it.
 use borrow.Author.Needs.{needs}
 use Rattle.sending.proofs.send_under.Statement.{statement}
 use Rattle.sending.proofs.send_under.Tie as tie
 
-head-at-requires : tie.Need-head-at-requires
-head-at-requires c κs = search needs
+own-eid-requires : tie.Need-own-eid-requires
+own-eid-requires c κs = search needs
 
-with-next-seq-requires : tie.Need-with-next-seq-requires
-with-next-seq-requires c κs = search needs
-
-put-head-requires : tie.Need-put-head-requires
-put-head-requires c κs = search needs
+mtu-at-requires : tie.Need-mtu-at-requires
+mtu-at-requires c κs = search needs
 
 mtu-for-requires : tie.Need-mtu-for-requires
 mtu-for-requires c κs = search needs
+
+next-seq-requires : tie.Need-next-seq-requires
+next-seq-requires c κs = search needs
 
 new-requires : tie.Need-new-requires
 new-requires c κs = search needs
@@ -23,18 +23,8 @@ same-length c = search needs
 
 returns : tie.Need-returns
 returns c =
-    let q = c .before .before .before .before .before .before .with-next-seq .ensures .0 in
-    let e = c .before .before .before .before .before .before .before .head-at .ensures .0 in
-    (rw (c .before .mtu-for .ensures, q, e) at (c .new .ensures), rw (q, e) at (c .before .before .before .before .put-head .ensures))
+    let n = c .before .before .before .next-seq .ensures in
+    (rw (c .before .before .before .before .before .mtu-for .ensures, c .before .before .before .before .before .before .mtu-at .ensures, c .before .before .before .before .before .before .before .before .own-eid .ensures, n .0) at (c .new .ensures), n .1)
 
 pub send-under-spec : {M : Type 1} → statement M
-send-under-spec =
-    tie.close
-    (tie.spec
-    head-at-requires
-    with-next-seq-requires
-    put-head-requires
-    mtu-for-requires
-    new-requires
-    same-length
-    returns)
+send-under-spec = tie.close (tie.spec own-eid-requires mtu-at-requires mtu-for-requires next-seq-requires new-requires same-length returns)

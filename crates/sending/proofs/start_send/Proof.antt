@@ -1,14 +1,12 @@
--- `start_send` refuses type and tag before anything is stored, and then goes by the tag (`start-as`).
-use mathlib.Core.Path.{refl, sym, ap, _∙_}
+-- `start_send` refuses type and tag before anything is stored, and then goes by the tag that there is (`carries`, `uncarried`).
+use mathlib.Core.Path.{refl, sym, _∙_}
 use denote.Ref.{now}
 use borrow.Author.Tests.{lt-ltb, le-ltb}
 use borrow.Author.Needs.{needs}
 use Rattle.octets.specs.Pick.{pick}
-use Rattle.state.specs.Stack.{stackOf}
 use Rattle.state.proofs.StackLaws.{stays}
-use Rattle.sending.specs.Sends.{badTag, tagSend, startSendOf}
-use Rattle.sending.specs.declared.SendTag.the-variants.{Fresh, Given}
-use Rattle.sending.proofs.SendLaws.{start-as}
+use Rattle.sending.specs.Sends.{startSendOf}
+use Rattle.sending.proofs.SendLaws.{carries, uncarried}
 use Rattle.sending.proofs.start_send.Statement.{statement}
 use Rattle.sending.proofs.start_send.Tie as tie
 
@@ -27,53 +25,37 @@ returns-2 c =
     let s = c .before .before .before .before .before in
     rw (le-ltb 127 (s .args .send .typ .0) (c .before .before .if1 .left), sym (c .before .is-bad-tag .ensures) ∙ c .if2 .taken) (refl, stays (s .args .sizes) (now (s .args .state)) (s .pre))
 
-enum-told : tie.Need-enum-told
-enum-told c = search needs
+tag-for-requires : tie.Need-tag-for-requires
+tag-for-requires c κs = search needs
 
-owned-send-requires : tie.Need-owned-send-requires
-owned-send-requires c κs = search needs
+enum-known-carried : tie.Need-enum-known-carried
+enum-known-carried c = search needs
 
-enum-known-tag : tie.Need-enum-known-tag
-enum-known-tag c = search needs
+send-under-requires : tie.Need-send-under-requires
+send-under-requires c κs = search needs
 
-given-send-requires : tie.Need-given-send-requires
-given-send-requires c κs = search needs
+enum-known-carried-2 : tie.Need-enum-known-carried-2
+enum-known-carried-2 c = search needs
 
 same-length : tie.Need-same-length
 same-length c = search needs
 
 returns-3 : tie.Need-returns-3
-unfolding tagSend
 returns-3 c =
-    let s = c .before .before .before .before .before .before .before .before .before .before .before in
-    let st = stackOf (s .args .sizes) (now (s .args .state)) in
-    let e = c .before .before .before .before .enum-told .given .1 in
-    rw (start-as (s .args .send) Fresh st (c .before .before .before .before .before .before .before .before .if1 .left) refl e) (c .before .before .owned-send .ensures)
+    let a = c .before .before .before .before .before .before .before .before .before .before .before .before .before .before .before .before .args in
+    let f = c .before .before .before .before .before .before .before .before .before .tag-for .ensures in
+    let good = sym (c .before .before .before .before .before .before .before .before .before .before .before .before .is-bad-tag .ensures) ∙ c .before .before .before .before .before .before .before .before .before .before .before .if2 .left in
+    carries (a .sizes) (now (a .state)) (a .send) (c .before .before .before .before .before .before .before .before .before .before .before .before .before .if1 .left) good _ _ _ _ (sym (f .0) ∙ c .before .before .before .before .before .carried .given .1) (f .1) (c .before .before .send-under .ensures)
 
 same-length-2 : tie.Need-same-length-2
 same-length-2 c = search needs
 
 returns-4 : tie.Need-returns-4
-unfolding tagSend
 returns-4 c =
-    let s = c .before .before .before .before .before .before .before .before .before .before .before .before in
-    let st = stackOf (s .args .sizes) (now (s .args .state)) in
-    let g = c .before .before .before .before .before .tag .given in
-    let f = sym (c .before .before .before .before .before .before .before .before .is-bad-tag .ensures) ∙ c .before .before .before .before .before .before .before .if2 .left in
-    rw (start-as (s .args .send) (Given (g .0 .0)) st (c .before .before .before .before .before .before .before .before .before .if1 .left) (ap badTag (sym (g .1)) ∙ f) (g .1)) (c .before .before .given-send .ensures)
+    let a = c .before .before .before .before .before .before .before .before .before .before .before .before .args in
+    let f = c .before .before .before .before .before .tag-for .ensures in
+    let good = sym (c .before .before .before .before .before .before .before .before .is-bad-tag .ensures) ∙ c .before .before .before .before .before .before .before .if2 .left in
+    uncarried (a .sizes) (now (a .state)) (a .send) (c .before .before .before .before .before .before .before .before .before .if1 .left) good _ (sym (f .0) ∙ c .before .carried2 .given .1) (f .1)
 
 pub start-send-spec : {M : Type 1} → statement M
-start-send-spec =
-    tie.close
-    (tie.spec
-    returns
-    is-bad-tag-requires
-    returns-2
-    enum-told
-    owned-send-requires
-    enum-known-tag
-    given-send-requires
-    same-length
-    returns-3
-    same-length-2
-    returns-4)
+start-send-spec = tie.close (tie.spec returns is-bad-tag-requires returns-2 tag-for-requires enum-known-carried send-under-requires enum-known-carried-2 same-length returns-3 same-length-2 returns-4)
