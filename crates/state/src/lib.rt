@@ -65,17 +65,17 @@ pub struct Head {
 }
 
 impl Head {
-    fn with(self, own: Eid, stamp: EventStamp, planned: u64, tag: u8, seq: u8) -> Head
-        requires { ⌜ HeadOk self × (tag < 8) × (seq < 4) ⌝ }
-        ensures { λ r. ⌜ (r ≡ headWith own stamp planned tag seq (self .issue) self) × ((planned ≤ stamp .clock + 100) → HeadOk r) ⌝ }
+    fn with(self, own: Eid, stamp: EventStamp, planned: u64) -> Head
+        requires { ⌜ HeadOk self ⌝ }
+        ensures { λ r. ⌜ (r ≡ headWith own stamp planned (self .«next_tag») (self .«next_seq») (self .issue) self) × ((planned ≤ stamp .clock + 100) → HeadOk r) ⌝ }
     {
         Head {
             own_eid: own,
             mtu: self.mtu,
             now: stamp,
             next_timeout: planned,
-            next_tag: tag,
-            next_seq: seq,
+            next_tag: self.next_tag,
+            next_seq: self.next_seq,
             issue: self.issue,
         }
     }
@@ -85,7 +85,7 @@ impl Head {
         ensures { λ r. ⌜ (r ≡ reowned own self) × HeadOk r ⌝ }
     {
         let stamp = self.now;
-        self.with(own, stamp, self.next_timeout, self.next_tag, self.next_seq)
+        self.with(own, stamp, self.next_timeout)
     }
 
     // Another stamp of the last event, and another planned check.
@@ -95,7 +95,7 @@ impl Head {
         ensures sound { λ r. ⌜ ((planned ≤ stamp .clock + 100) → HeadOk r) ⌝ }
     {
         let own = self.own_eid;
-        self.with(own, stamp, planned, self.next_tag, self.next_seq)
+        self.with(own, stamp, planned)
     }
 }
 
