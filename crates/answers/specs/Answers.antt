@@ -1,6 +1,6 @@
 -- What a call answers in numbers: 0 or the refusal's number.
 -- And what it leaves in the row that it is lent: a refusal leaves it as it was.
--- Leans on the answers of `sending`, `fragment`, `updating`, `concluding` and `handling`, and on the rows of `words`.
+-- Leans on the answers of `fragment`, `updating`, `concluding` and `handling`, and on the rows of `words`.
 use Prim.Native.Nat.{ℕ}
 use mathlib.Core.List.{List, [], _∷_}
 use Rattle.mctp.specs.Terms.{errorNo}

@@ -1,6 +1,6 @@
 // What a call answers in numbers, and what it leaves in the row that it is lent: a refusal leaves the row as it was.
 // One function for each kind of answer. Definitions: specs/Answers.antt.
-// Leans on `words` for rows, on the answers of `sending`, `fragment`, `updating`, `concluding` and `handling`.
+// Leans on `words` for rows, on the answers of `fragment`, `updating`, `concluding` and `handling`.
 ghost use mathlib.Core.Path.{_≡_};
 ghost use Rattle.answers.specs.Answers.{doneNo, updatedNo, nextAfter, receivedNo, handleAfter, deferredWords, fetchedNo, messageAfter, startedNo, fragmenterAfter, stepNo, lengthAfter, steppedAfter};
 use concluding::Received;

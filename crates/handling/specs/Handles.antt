@@ -1,6 +1,6 @@
 -- Document 01, "Handles", fetch, finish, return, set cookie, and the deferred lookups.
 -- A handle is an index and an issue number.
--- Leans on `reassemble` for a slot's part, on `concluding` for the count of handles.
+-- Leans on `slot` for a slot's part, on `concluding` for the count of handles.
 use Prim.Native.Nat.{ℕ, _+_, _*_}
 use mathlib.Core.Bool.{Bool, true, false}
 use mathlib.Core.List.{List}

@@ -1,4 +1,4 @@
--- The definitions that the contracts of `slot_walks` cite, beside those of `reassemble` and `walks`.
+-- The definitions that the contracts of `slot_walks` cite, beside those of `slot` and `walks`.
 -- SlotWalks: a cancel's sweep, the better of two, a search's choice.
--- Leans on `reassemble` and `state`.
+-- Leans on `slot` and `state`.
 pub mod SlotWalks

@@ -1,6 +1,6 @@
 -- What a walk over the slots of a stack looks for and makes.
 -- A cancel's sweep; the better of two messages; what a search asks of a slot.
--- Leans on `reassemble` for one slot, on `state` for its first bytes.
+-- Leans on `slot` for one slot, on `state` for its first bytes.
 use Prim.Native.Nat.{ℕ}
 use mathlib.Core.Bool.{Bool, true, false}
 use mathlib.Core.List.{List, [], _∷_}

@@ -1,6 +1,6 @@
 // Walks over the slots of a state kept in bytes: which slot collects, which is empty, the earliest message, a check of time, a cancel's sweep.
-// Each touches only what it needs. Definitions: specs/SlotWalks.antt, and those of `reassemble` and `walks`.
-// Leans on `state` for the bytes, on `reassemble` for one slot's part, on `walks` for the check.
+// Each touches only what it needs. Definitions: specs/SlotWalks.antt, and those of `slot` and `walks`.
+// Leans on `state` for the bytes, on `slot` for one slot's part, on `walks` for the check.
 ghost use mathlib.Core.Path.{_≡_};
 ghost use mathlib.Core.List.{map, _∷_, []};
 ghost use Prim.Native.Nat.{_+_, _≤_, _<_};

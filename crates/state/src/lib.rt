@@ -1,6 +1,6 @@
 // The stack's state, kept in bytes that the caller lends: where each part lies, its codec, and its accessors. Nothing above opens a byte.
 // A head of 40 bytes, 64 flow places of 32, then the slots of 40, last, so that their number moves no offset.
-// Leans on `octets` for numbers in bytes and blocks, on `flows` and `reassemble` for the records. Definitions: specs/Layout.antt, Head.antt, Slot.antt, Stack.antt.
+// Leans on `octets` for numbers in bytes and blocks, on `flows` and `slot` for the records. Definitions: specs/Layout.antt, Head.antt, Slot.antt, Stack.antt.
 ghost use mathlib.Core.Path.{_≡_};
 ghost use Prim.Native.Nat.{_+_, _%_, _≤_, _<_, _^_};
 ghost use lib.ListN.{replicate};

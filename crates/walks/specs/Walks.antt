@@ -1,6 +1,6 @@
 -- An event, and what a check of time finds, over the slots or the flows of a stack.
 -- The stack with another stamp, other slots or other flows.
--- Leans on `state` for the stack, on `flows` and `reassemble` for what time a record has.
+-- Leans on `state` for the stack, on `flows` and `slot` for what time a record has.
 use Prim.Native.Nat.{ℕ}
 use mathlib.Core.Bool.{Bool, true}
 use mathlib.Core.List.{List, [], _∷_, map}
