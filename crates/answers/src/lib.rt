@@ -2,7 +2,12 @@
 // One function for each kind of answer. Definitions: specs/Answers.antt.
 // Leans on `words` for rows, on the answers of `fragment`, `updating`, `concluding` and `handling`.
 ghost use mathlib.Core.Path.{_≡_};
-ghost use Rattle.answers.specs.Answers.{doneNo, updatedNo, nextAfter, receivedNo, handleAfter, deferredWords, fetchedNo, messageAfter, startedNo, fragmenterAfter, stepNo, lengthAfter, steppedAfter};
+ghost use Rattle.mctp.specs.Answer.{answerNo, rowAfter};
+ghost use Rattle.fragment.specs.Answers.{startedAs, outputAs};
+ghost use Rattle.concluding.specs.Conclude.{receivedAs};
+ghost use Rattle.updating.specs.Update.{updatedAs};
+ghost use Rattle.handling.specs.Handles.{doneAs, fetchedAs, deferredAs};
+ghost use Rattle.answers.specs.Answers.{lengthAfter, steppedAfter};
 use concluding::Received;
 use fragment::Fragmenter;
 use fragment::SendOutput;
@@ -18,7 +23,7 @@ use words::message_words;
 use words::words_of;
 
 pub fn done_no(d: Done) -> u8
-    ensures { λ r. ⌜ r ≡ doneNo d ⌝ }
+    ensures { λ r. ⌜ r ≡ answerNo (doneAs d) ⌝ }
 {
     match d {
         Done::Done => 0,
@@ -28,8 +33,8 @@ pub fn done_no(d: Done) -> u8
 
 // A send that has started leaves its fragmenter.
 pub fn put_started(fragmenter: &mut [u64; 13], started: Started) -> u8
-    ensures { λ r. ⌜ r ≡ startedNo started ⌝ }
-    ensures { λ _. ⌜ now (fragmenter .exit) ≡ fragmenterAfter started (now (fragmenter .entry)) ⌝ }
+    ensures { λ r. ⌜ r ≡ answerNo (startedAs started) ⌝ }
+    ensures { λ _. ⌜ now (fragmenter .exit) ≡ rowAfter 13 (startedAs started) (now (fragmenter .entry)) ⌝ }
 {
     match started {
         Started::Sends(f) => {
@@ -47,8 +52,8 @@ pub fn put_step(
     next: Fragmenter,
     output: SendOutput,
 ) -> u8
-    ensures { λ r. ⌜ r ≡ stepNo output ⌝ }
-    ensures { λ _. ⌜ now (len .exit) ≡ lengthAfter output (now (len .entry)) ⌝ }
+    ensures { λ r. ⌜ r ≡ answerNo (outputAs output) ⌝ }
+    ensures { λ _. ⌜ now (len .exit) ≡ lengthAfter (outputAs output) (now (len .entry)) ⌝ }
     ensures { λ _. ⌜ now (fragmenter .exit) ≡ steppedAfter next output (now (fragmenter .entry)) ⌝ }
 {
     match output {
@@ -67,8 +72,8 @@ pub fn put_step(
 
 // An update leaves how many milliseconds may pass until the next, and whether something expired.
 pub fn put_next(next: &mut [u64; 2], updated: Updated) -> u8
-    ensures { λ r. ⌜ r ≡ updatedNo updated ⌝ }
-    ensures { λ _. ⌜ now (next .exit) ≡ nextAfter updated (now (next .entry)) ⌝ }
+    ensures { λ r. ⌜ r ≡ answerNo (updatedAs updated) ⌝ }
+    ensures { λ _. ⌜ now (next .exit) ≡ rowAfter 2 (updatedAs updated) (now (next .entry)) ⌝ }
 {
     match updated {
         Updated::Next { millis, expired } => {
@@ -81,8 +86,8 @@ pub fn put_next(next: &mut [u64; 2], updated: Updated) -> u8
 
 // A packet that ends a message leaves its handle, any other issue 0.
 pub fn put_received(handle: &mut [u64; 2], received: Received) -> u8
-    ensures { λ r. ⌜ r ≡ receivedNo received ⌝ }
-    ensures { λ _. ⌜ now (handle .exit) ≡ handleAfter received (now (handle .entry)) ⌝ }
+    ensures { λ r. ⌜ r ≡ answerNo (receivedAs received) ⌝ }
+    ensures { λ _. ⌜ now (handle .exit) ≡ rowAfter 2 (receivedAs received) (now (handle .entry)) ⌝ }
 {
     match received {
         Received::More => {
@@ -98,19 +103,23 @@ pub fn put_received(handle: &mut [u64; 2], received: Received) -> u8
 }
 
 // The handle found, or issue 0.
-pub fn deferred_words(d: Deferred) -> [u64; 2]
-    ensures { λ r. ⌜ r ≡ deferredWords d ⌝ }
+pub fn put_deferred(handle: &mut [u64; 2], d: Deferred)
+    ensures { λ _. ⌜ now (handle .exit) ≡ rowAfter 2 (deferredAs d) (now (handle .entry)) ⌝ }
 {
     match d {
-        Deferred::Found(h) => handle_words(h),
-        Deferred::Nothing => [0, 0],
+        Deferred::Found(h) => {
+            *handle = handle_words(h);
+        }
+        Deferred::Nothing => {
+            *handle = [0, 0];
+        }
     }
 }
 
 // A message that is fetched leaves its row.
 pub fn put_message(message: &mut [u64; 10], fetched: Fetched) -> u8
-    ensures { λ r. ⌜ r ≡ fetchedNo fetched ⌝ }
-    ensures { λ _. ⌜ now (message .exit) ≡ messageAfter fetched (now (message .entry)) ⌝ }
+    ensures { λ r. ⌜ r ≡ answerNo (fetchedAs fetched) ⌝ }
+    ensures { λ _. ⌜ now (message .exit) ≡ rowAfter 10 (fetchedAs fetched) (now (message .entry)) ⌝ }
 {
     match fetched {
         Fetched::Message(m) => {

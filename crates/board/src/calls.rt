@@ -1,18 +1,22 @@
 // The calls. The one premise is the state's: it is one that `hyphaloom_new` made and the other calls kept.
 ghost use mathlib.Core.Path.{_≡_};
+ghost use mathlib.Core.Bool.{true};
 ghost use lib.ListN.{length};
 ghost use Rattle.octets.specs.Bytes.{over};
+ghost use Rattle.mctp.specs.Answer.{answerNo, rowAfter};
 ghost use Rattle.fragment.specs.Step.{stepOf};
+ghost use Rattle.fragment.specs.Answers.{startedAs, outputAs};
 ghost use Rattle.state.specs.Stack.{Kept, Becomes, stackOf};
+ghost use Rattle.concluding.specs.Conclude.{receivedAs};
 ghost use Rattle.receiving.specs.Receive.{receiveOf};
 ghost use Rattle.estack.specs.Basics.{newSays, NewMakes, setEidOf, localOf, cancelOf, freeTagsOf};
-ghost use Rattle.handling.specs.Handles.{finishOf, returnOf, cookieOf, fetchOf, bySourceOf, byCookieOf};
-ghost use Rattle.updating.specs.Update.{updateOf};
+ghost use Rattle.handling.specs.Handles.{doneAs, fetchedAs, deferredAs, finishOf, returnOf, cookieOf, fetchOf, bySourceOf, byCookieOf};
+ghost use Rattle.updating.specs.Update.{updatedAs, updateOf};
 ghost use Rattle.words.specs.Words.{isYes, tagFrom, cookieFrom, fragmenterOf};
-ghost use Rattle.answers.specs.Answers.{doneNo, updatedNo, nextAfter, receivedNo, handleAfter, deferredWords, fetchedNo, messageAfter, startedNo, fragmenterAfter, stepNo, lengthAfter, steppedAfter};
+ghost use Rattle.answers.specs.Answers.{lengthAfter, steppedAfter};
 ghost use Rattle.board.specs.Board.{board, startOf};
-use answers::deferred_words;
 use answers::done_no;
+use answers::put_deferred;
 use answers::put_message;
 use answers::put_next;
 use answers::put_received;
@@ -31,16 +35,25 @@ use words::tag_from;
 // A new stack in the front of a buffer of at least 2,248 bytes; what lies past it stays.
 #[no_mangle]
 pub extern "C" fn hyphaloom_new(state: &mut [u8], own: u8, mtu: usize, clock: u64) -> u8
-    ensures said { λ r. ⌜ r ≡ doneNo (newSays board (length (now (state .entry))) mtu) ⌝ }
+    ensures said { λ r. ⌜ r ≡ answerNo (doneAs (newSays board (length (now (state .entry))) mtu)) ⌝ }
     ensures stack { λ _. ⌜ NewMakes (newSays board (length (now (state .entry))) mtu) board (record { 0 = own }) mtu clock (now (state .entry)) (now (state .exit)) ⌝ }
 {
     done_no(estack::new(state, Sizes::BOARD, Eid(own), mtu, clock))
 }
 
+// Whether the bytes are a state, such as `hyphaloom_new` makes and the other calls keep. It asks nothing: any bytes may be looked at.
+#[no_mangle]
+pub extern "C" fn hyphaloom_is_kept(state: &[u8]) -> bool
+    ensures sound { λ r. ⌜ (r ≡ true → Kept board (now (state .entry))) ⌝ }
+    ensures complete { λ r. ⌜ (Kept board (now (state .entry)) → r ≡ true) ⌝ }
+{
+    kept::is_kept(state, Sizes::BOARD)
+}
+
 #[no_mangle]
 pub extern "C" fn hyphaloom_set_eid(state: &mut [u8], eid: u8) -> u8
     requires { ⌜ Kept board (now state) ⌝ }
-    ensures said { λ r. ⌜ r ≡ doneNo (setEidOf eid (stackOf board (now (state .entry))) .said) ⌝ }
+    ensures said { λ r. ⌜ r ≡ answerNo (doneAs (setEidOf eid (stackOf board (now (state .entry))) .said)) ⌝ }
     ensures stack { λ _. ⌜ Becomes board (now (state .entry)) (now (state .exit)) (setEidOf eid (stackOf board (now (state .entry))) .stack) ⌝ }
 {
     done_no(estack::set_eid(state, Sizes::BOARD, eid))
@@ -70,9 +83,9 @@ pub extern "C" fn hyphaloom_start_send(
     fragmenter: &mut [u64; 13],
 ) -> u8
     requires { ⌜ Kept board (now state) ⌝ }
-    ensures said { λ r. ⌜ r ≡ startedNo (startOf (now (send .entry)) (stackOf board (now (state .entry))) .said) ⌝ }
+    ensures said { λ r. ⌜ r ≡ answerNo (startedAs (startOf (now (send .entry)) (stackOf board (now (state .entry))) .said)) ⌝ }
     ensures stack { λ _. ⌜ Becomes board (now (state .entry)) (now (state .exit)) (startOf (now (send .entry)) (stackOf board (now (state .entry))) .stack) ⌝ }
-    ensures fragmenter { λ _. ⌜ now (fragmenter .exit) ≡ fragmenterAfter (startOf (now (send .entry)) (stackOf board (now (state .entry))) .said) (now (fragmenter .entry)) ⌝ }
+    ensures fragmenter { λ _. ⌜ now (fragmenter .exit) ≡ rowAfter 13 (startedAs (startOf (now (send .entry)) (stackOf board (now (state .entry))) .said)) (now (fragmenter .entry)) ⌝ }
 {
     let good = is_lawful(send);
     if good {
@@ -90,8 +103,8 @@ pub extern "C" fn hyphaloom_fragment(
     out: &mut [u8],
     len: &mut u64,
 ) -> u8
-    ensures said { λ r. ⌜ r ≡ stepNo (stepOf (fragmenterOf (now (fragmenter .entry))) (now (payload .entry)) (length (now (out .entry))) .result .output) ⌝ }
-    ensures length { λ _. ⌜ now (len .exit) ≡ lengthAfter (stepOf (fragmenterOf (now (fragmenter .entry))) (now (payload .entry)) (length (now (out .entry))) .result .output) (now (len .entry)) ⌝ }
+    ensures said { λ r. ⌜ r ≡ answerNo (outputAs (stepOf (fragmenterOf (now (fragmenter .entry))) (now (payload .entry)) (length (now (out .entry))) .result .output)) ⌝ }
+    ensures length { λ _. ⌜ now (len .exit) ≡ lengthAfter (outputAs (stepOf (fragmenterOf (now (fragmenter .entry))) (now (payload .entry)) (length (now (out .entry))) .result .output)) (now (len .entry)) ⌝ }
     ensures fragmenter { λ _. ⌜ now (fragmenter .exit) ≡ steppedAfter (stepOf (fragmenterOf (now (fragmenter .entry))) (now (payload .entry)) (length (now (out .entry))) .result .next) (stepOf (fragmenterOf (now (fragmenter .entry))) (now (payload .entry)) (length (now (out .entry))) .result .output) (now (fragmenter .entry)) ⌝ }
     ensures packet { λ _. ⌜ now (out .exit) ≡ over 0 (stepOf (fragmenterOf (now (fragmenter .entry))) (now (payload .entry)) (length (now (out .entry))) .bytes) (now (out .entry)) ⌝ }
 {
@@ -108,9 +121,9 @@ pub extern "C" fn hyphaloom_fragment(
 #[no_mangle]
 pub extern "C" fn hyphaloom_update(state: &mut [u8], clock: u64, next: &mut [u64; 2]) -> u8
     requires { ⌜ Kept board (now state) ⌝ }
-    ensures said { λ r. ⌜ r ≡ updatedNo (updateOf clock (stackOf board (now (state .entry))) .said) ⌝ }
+    ensures said { λ r. ⌜ r ≡ answerNo (updatedAs (updateOf clock (stackOf board (now (state .entry))) .said)) ⌝ }
     ensures stack { λ _. ⌜ Becomes board (now (state .entry)) (now (state .exit)) (updateOf clock (stackOf board (now (state .entry))) .stack) ⌝ }
-    ensures next { λ _. ⌜ now (next .exit) ≡ nextAfter (updateOf clock (stackOf board (now (state .entry))) .said) (now (next .entry)) ⌝ }
+    ensures next { λ _. ⌜ now (next .exit) ≡ rowAfter 2 (updatedAs (updateOf clock (stackOf board (now (state .entry))) .said)) (now (next .entry)) ⌝ }
 {
     let updated = estack::update(state, Sizes::BOARD, clock);
     put_next(next, updated)
@@ -125,10 +138,10 @@ pub extern "C" fn hyphaloom_receive(
     handle: &mut [u64; 2],
 ) -> u8
     requires { ⌜ Kept board (now state) ⌝ }
-    ensures said { λ r. ⌜ r ≡ receivedNo (receiveOf 1032 (stackOf board (now (state .entry))) (length (now (pool .entry))) (now (packet .entry)) .said) ⌝ }
+    ensures said { λ r. ⌜ r ≡ answerNo (receivedAs (receiveOf 1032 (stackOf board (now (state .entry))) (length (now (pool .entry))) (now (packet .entry)) .said)) ⌝ }
     ensures stack { λ _. ⌜ Becomes board (now (state .entry)) (now (state .exit)) (receiveOf 1032 (stackOf board (now (state .entry))) (length (now (pool .entry))) (now (packet .entry)) .stack) ⌝ }
     ensures pool { λ _. ⌜ now (pool .exit) ≡ over (receiveOf 1032 (stackOf board (now (state .entry))) (length (now (pool .entry))) (now (packet .entry)) .at) (receiveOf 1032 (stackOf board (now (state .entry))) (length (now (pool .entry))) (now (packet .entry)) .bytes) (now (pool .entry)) ⌝ }
-    ensures handle { λ _. ⌜ now (handle .exit) ≡ handleAfter (receiveOf 1032 (stackOf board (now (state .entry))) (length (now (pool .entry))) (now (packet .entry)) .said) (now (handle .entry)) ⌝ }
+    ensures handle { λ _. ⌜ now (handle .exit) ≡ rowAfter 2 (receivedAs (receiveOf 1032 (stackOf board (now (state .entry))) (length (now (pool .entry))) (now (packet .entry)) .said)) (now (handle .entry)) ⌝ }
 {
     let received = estack::receive(state, Sizes::BOARD, pool, packet);
     put_received(handle, received)
@@ -145,11 +158,11 @@ pub extern "C" fn hyphaloom_get_deferred(
 )
     requires { ⌜ Kept board (now state) ⌝ }
     ensures stack { λ _. ⌜ Becomes board (now (state .entry)) (now (state .exit)) (bySourceOf (record { 0 = source }) (tagFrom (isYes owner) tag) (stackOf board (now (state .entry))) .stack) ⌝ }
-    ensures handle { λ _. ⌜ now (handle .exit) ≡ deferredWords (bySourceOf (record { 0 = source }) (tagFrom (isYes owner) tag) (stackOf board (now (state .entry))) .said) ⌝ }
+    ensures handle { λ _. ⌜ now (handle .exit) ≡ rowAfter 2 (deferredAs (bySourceOf (record { 0 = source }) (tagFrom (isYes owner) tag) (stackOf board (now (state .entry))) .said)) (now (handle .entry)) ⌝ }
 {
     let t = tag_from(0 < owner, tag);
     let found = estack::get_deferred(state, Sizes::BOARD, Eid(source), t);
-    *handle = deferred_words(found);
+    put_deferred(handle, found);
 }
 
 // The earliest message kept whose cookie is one of the list.
@@ -161,10 +174,10 @@ pub extern "C" fn hyphaloom_get_deferred_bycookie(
 )
     requires { ⌜ Kept board (now state) ⌝ }
     ensures stack { λ _. ⌜ Becomes board (now (state .entry)) (now (state .exit)) (byCookieOf (now (cookies .entry)) (stackOf board (now (state .entry))) .stack) ⌝ }
-    ensures handle { λ _. ⌜ now (handle .exit) ≡ deferredWords (byCookieOf (now (cookies .entry)) (stackOf board (now (state .entry))) .said) ⌝ }
+    ensures handle { λ _. ⌜ now (handle .exit) ≡ rowAfter 2 (deferredAs (byCookieOf (now (cookies .entry)) (stackOf board (now (state .entry))) .said)) (now (handle .entry)) ⌝ }
 {
     let found = estack::get_deferred_bycookie(state, Sizes::BOARD, cookies);
-    *handle = deferred_words(found);
+    put_deferred(handle, found);
 }
 
 fn handle_of(index: usize, issue: u64) -> ReceiveHandle
@@ -186,8 +199,8 @@ pub extern "C" fn hyphaloom_fetch_message(
     message: &mut [u64; 10],
 ) -> u8
     requires { ⌜ Kept board (now state) ⌝ }
-    ensures said { λ r. ⌜ r ≡ fetchedNo (fetchOf 1032 (record { index = index; issue = issue }) (stackOf board (now (state .entry))) (length (now (pool .entry)))) ⌝ }
-    ensures message { λ _. ⌜ now (message .exit) ≡ messageAfter (fetchOf 1032 (record { index = index; issue = issue }) (stackOf board (now (state .entry))) (length (now (pool .entry)))) (now (message .entry)) ⌝ }
+    ensures said { λ r. ⌜ r ≡ answerNo (fetchedAs (fetchOf 1032 (record { index = index; issue = issue }) (stackOf board (now (state .entry))) (length (now (pool .entry))))) ⌝ }
+    ensures message { λ _. ⌜ now (message .exit) ≡ rowAfter 10 (fetchedAs (fetchOf 1032 (record { index = index; issue = issue }) (stackOf board (now (state .entry))) (length (now (pool .entry))))) (now (message .entry)) ⌝ }
 {
     let handle = handle_of(index, issue);
     let fetched = estack::fetch_message(state, Sizes::BOARD, pool, handle);
@@ -197,7 +210,7 @@ pub extern "C" fn hyphaloom_fetch_message(
 #[no_mangle]
 pub extern "C" fn hyphaloom_finished_receive(state: &mut [u8], index: usize, issue: u64) -> u8
     requires { ⌜ Kept board (now state) ⌝ }
-    ensures said { λ r. ⌜ r ≡ doneNo (finishOf (record { index = index; issue = issue }) (stackOf board (now (state .entry))) .said) ⌝ }
+    ensures said { λ r. ⌜ r ≡ answerNo (doneAs (finishOf (record { index = index; issue = issue }) (stackOf board (now (state .entry))) .said)) ⌝ }
     ensures stack { λ _. ⌜ Becomes board (now (state .entry)) (now (state .exit)) (finishOf (record { index = index; issue = issue }) (stackOf board (now (state .entry))) .stack) ⌝ }
 {
     let handle = handle_of(index, issue);
@@ -207,7 +220,7 @@ pub extern "C" fn hyphaloom_finished_receive(state: &mut [u8], index: usize, iss
 #[no_mangle]
 pub extern "C" fn hyphaloom_return_handle(state: &mut [u8], index: usize, issue: u64) -> u8
     requires { ⌜ Kept board (now state) ⌝ }
-    ensures said { λ r. ⌜ r ≡ doneNo (returnOf (record { index = index; issue = issue }) (stackOf board (now (state .entry))) .said) ⌝ }
+    ensures said { λ r. ⌜ r ≡ answerNo (doneAs (returnOf (record { index = index; issue = issue }) (stackOf board (now (state .entry))) .said)) ⌝ }
     ensures stack { λ _. ⌜ Becomes board (now (state .entry)) (now (state .exit)) (returnOf (record { index = index; issue = issue }) (stackOf board (now (state .entry))) .stack) ⌝ }
 {
     let handle = handle_of(index, issue);
@@ -223,7 +236,7 @@ pub extern "C" fn hyphaloom_set_cookie(
     cookie: u64,
 ) -> u8
     requires { ⌜ Kept board (now state) ⌝ }
-    ensures said { λ r. ⌜ r ≡ doneNo (cookieOf (record { index = index; issue = issue }) (cookieFrom (isYes «has_cookie») cookie) (stackOf board (now (state .entry))) .said) ⌝ }
+    ensures said { λ r. ⌜ r ≡ answerNo (doneAs (cookieOf (record { index = index; issue = issue }) (cookieFrom (isYes «has_cookie») cookie) (stackOf board (now (state .entry))) .said)) ⌝ }
     ensures stack { λ _. ⌜ Becomes board (now (state .entry)) (now (state .exit)) (cookieOf (record { index = index; issue = issue }) (cookieFrom (isYes «has_cookie») cookie) (stackOf board (now (state .entry))) .stack) ⌝ }
 {
     let handle = handle_of(index, issue);
@@ -234,7 +247,7 @@ pub extern "C" fn hyphaloom_set_cookie(
 #[no_mangle]
 pub extern "C" fn hyphaloom_cancel_flow(state: &mut [u8], source: u8, tag: u8) -> u8
     requires { ⌜ Kept board (now state) ⌝ }
-    ensures said { λ r. ⌜ r ≡ doneNo (cancelOf (record { 0 = source }) (record { 0 = tag }) (stackOf board (now (state .entry))) .said) ⌝ }
+    ensures said { λ r. ⌜ r ≡ answerNo (doneAs (cancelOf (record { 0 = source }) (record { 0 = tag }) (stackOf board (now (state .entry))) .said)) ⌝ }
     ensures stack { λ _. ⌜ Becomes board (now (state .entry)) (now (state .exit)) (cancelOf (record { 0 = source }) (record { 0 = tag }) (stackOf board (now (state .entry))) .stack) ⌝ }
 {
     done_no(estack::cancel_flow(state, Sizes::BOARD, Eid(source), TagValue(tag)))

@@ -2,10 +2,12 @@
 -- of a reply's flow.
 -- Leans on `reassemble` for the outcome, on `flows` for the flow's removal, on `state` for the stack.
 use Prim.Native.Nat.{ℕ, _+_}
-use mathlib.Core.List.{List}
+use mathlib.Core.List.{List, [], _∷_}
 use lib.Dec.{ltb}
 use Rattle.octets.specs.Pick.{pick}
 use Rattle.mctp.specs.declared.Key.{Key}
+use Rattle.mctp.specs.Terms.{errorNo}
+use Rattle.mctp.specs.Answer.{Answer, gives, refuses}
 use Rattle.flows.specs.declared.Flow.{Flow}
 use Rattle.flows.specs.Table.{removed}
 use Rattle.reassemble.specs.declared.Outcome.{Outcome}
@@ -24,6 +26,16 @@ abbrev pub saidOf : Outcome → ℕ → ℕ → Received
 saidOf Going i issue = More
 saidOf Whole i issue = Message (record { index = i; issue = issue })
 saidOf (Freed err) i issue = Refused err
+
+-- a handle in numbers: the slot's index and the number under which it went out. No handle has number 0 (`issue-some`)
+abbrev pub handleWords : ReceiveHandle → List ℕ
+handleWords h = h .index ∷ h .issue ∷ []
+
+-- 0 while more is to come; 0 and a handle with a message
+abbrev pub receivedAs : Received → Answer
+receivedAs More = gives []
+receivedAs (Message h) = gives (handleWords h)
+receivedAs (Refused err) = refuses (errorNo err) []
 
 -- step 6: with EOM, if TO=0 the flow is removed, and if it has gone already nothing happens
 abbrev pub flowsAfter : Outcome → Key → List Flow → List Flow

@@ -171,8 +171,8 @@ module _ (f : Fragmenter) (payload : List ℕ) (n : ℕ) (sending : Sending f pa
   head : headerOf p ≡ Good (headOf f (ends f (length payload) n))
   head = read-back (headOf f (ends f (length payload) n)) (sending .sound .seq) (sending .sound .tag) (intro (f .first) (typeByte (f .typ) (f .ic)) b)
 
-  size : length p ≡ lead (f .first) + k
-  size =
+  pub packet-size : length p ≡ lead (f .first) + k
+  packet-size =
       let u = sending .used in
       let l = length-part (f .«payload_used») k payload (omega arith) in
       let z = length-packet (f .first) (headOf f (ends f (length payload) n)) (typeByte (f .typ) (f .ic)) b in
@@ -180,7 +180,7 @@ module _ (f : Fragmenter) (payload : List ℕ) (n : ℕ) (sending : Sending f pa
 
   packet-is : PacketIs (keyUnder (f .src) (f .dest) (f .tag)) (f .mtu) (f .first) (ends f (length payload) n) (f .seq) p
   packet-is =
-      let l = size in
+      let l = packet-size in
       let m = lead-most (f .first) in
       let least = sending .sound .least in
       record { header = head; whole = omega arith; within = omega arith }

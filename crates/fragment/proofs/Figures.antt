@@ -15,10 +15,10 @@ use Rattle.fragment.specs.Step.{newOf, fresh, stepOf}
 use Rattle.fragment.specs.Run.{written, after}
 
 -- with that MTU
-abbrev from : ℕ → Fragmenter
+abbrev pub from : ℕ → Fragmenter
 from mtu = fresh (record { 0 = 1 }) (record { 0 = 8 }) (record { 0 = 9 }) (Owned (record { 0 = 1 })) mtu Absent (record { 0 = false }) 1
 
-abbrev body : List ℕ
+abbrev pub body : List ℕ
 body = 0xAA ∷ 0xBB ∷ 0xCC ∷ []
 
 started : newOf (record { 0 = 1 }) (record { 0 = 8 }) (record { 0 = 9 }) (Owned (record { 0 = 1 })) 255 Absent (record { 0 = false }) 1 ≡ Sends (from 255)

@@ -5,4 +5,5 @@ pub mod Cuts
 pub mod Idle
 pub mod Count
 pub mod Figures
+pub mod Full
 pub mod Walk

@@ -3,7 +3,7 @@
 -- Leans on `slot` for a slot's part, on `concluding` for the count of handles.
 use Prim.Native.Nat.{ℕ, _+_, _*_}
 use mathlib.Core.Bool.{Bool, true, false}
-use mathlib.Core.List.{List}
+use mathlib.Core.List.{List, [], _∷_}
 use lib.Dec.{ltb}
 use lib.ListN.{length, set}
 use Rattle.octets.specs.Pick.{pick}
@@ -11,7 +11,8 @@ use Rattle.mctp.specs.declared.Eid.{Eid}
 use Rattle.mctp.specs.declared.Tag.{Tag}
 use Rattle.mctp.specs.declared.Cookie.{Cookie}
 use Rattle.mctp.specs.declared.Error.the-variants.{BadArgument, PoolShort}
-use Rattle.mctp.specs.Terms.{tagOf, isOwner}
+use Rattle.mctp.specs.Terms.{errorNo, tagOf, isOwner, cookieNo, cookieValue}
+use Rattle.mctp.specs.Answer.{Answer, gives, refuses, flagWord}
 use Rattle.slot.specs.declared.State.the-variants.{Done as Kept, HandleOut}
 use Rattle.slot.specs.declared.Reassembler.{Reassembler}
 use Rattle.slot.specs.Slot.{blankSlot, handleIs, keptUnder, listed, restated, recookied}
@@ -26,7 +27,40 @@ use Rattle.handling.specs.declared.Fetched.{Fetched}
 use Rattle.handling.specs.declared.Fetched.the-variants.{Message as Fetch, Refused as Unfetched}
 use Rattle.handling.specs.declared.Deferred.{Deferred}
 use Rattle.handling.specs.declared.Deferred.the-variants.{Found, Nothing}
-use Rattle.concluding.specs.Conclude.{nextIssue}
+use Rattle.concluding.specs.Conclude.{nextIssue, handleWords}
+
+-- ---- answers in document 01's numbers
+
+-- 0 and nothing else
+abbrev pub doneAs : Done → Answer
+doneAs Well = gives []
+doneAs (Refused err) = refuses (errorNo err) []
+
+-- a message in numbers: source, destination, TO, tag, type, IC, has a cookie, cookie, the body's place in the pool and its length
+abbrev pub messageWords : Message → List ℕ
+messageWords m =
+    m .key .source .0
+    ∷ m .key .dest .0
+    ∷ flagWord (m .key .owner)
+    ∷ m .key .tag .0
+    ∷ m .typ .0
+    ∷ flagWord (m .ic .0)
+    ∷ cookieNo (m .cookie)
+    ∷ cookieValue (m .cookie)
+    ∷ m .at
+    ∷ m .len
+    ∷ []
+
+abbrev pub fetchedAs : Fetched → Answer
+fetchedAs (Fetch m) = gives (messageWords m)
+fetchedAs (Unfetched err) = refuses (errorNo err) []
+
+-- 0 and a handle, or 0 alone where there is none
+abbrev pub deferredAs : Deferred → Answer
+deferredAs (Found h) = gives (handleWords h)
+deferredAs Nothing = gives []
+
+-- ---- handles
 
 -- index past the slots, slot not done, handle not out or another number: the handle is no good
 unfoldable pub isGood : ReceiveHandle → Stack → Bool

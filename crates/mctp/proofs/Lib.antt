@@ -3,3 +3,4 @@ pub mod Wire
 pub mod RoundTrip
 pub mod Keys
 pub mod CookieLaws
+pub mod Answers

@@ -31,8 +31,8 @@ use Rattle.state.specs.Stack.{Stack, slotAt}
 use Rattle.walks.specs.Walks.{ticked}
 use Rattle.concluding.specs.declared.ReceiveHandle.{ReceiveHandle}
 use Rattle.concluding.specs.declared.Received.the-variants.{More}
-use Rattle.concluding.specs.Conclude.{nextIssue, saidOf}
-use Rattle.receiving.specs.Receive.{Receipt, receivedAs, settled, land, opening, gateOf, receiveAt, receiveBy, receiveOf}
+use Rattle.concluding.specs.Conclude.{nextIssue, saidOf, receivedAs}
+use Rattle.receiving.specs.Receive.{Receipt, settled, land, opening, gateOf, receiveAt, receiveBy, receiveOf}
 use Rattle.promises.specs.Calls.{World, receive, step, receipt}
 use Rattle.handling.specs.Handles.{messageIn}
 use Rattle.promises.specs.Delivery.{Hands}

@@ -11,8 +11,8 @@ use borrow.Author.Tests.{le-ltb, lt-ltb, eq-eqb, ltb-false}
 use Rattle.octets.specs.Pick.{pick}
 use Rattle.octets.specs.Bytes.{over}
 use Rattle.octets.proofs.Bools.{bool-cases}
-use Rattle.mctp.specs.declared.Error.{Error}
-use Rattle.mctp.specs.declared.Error.the-variants.{InvalidInput, NoSpace, BadArgument, TagUnavailable, Unreachable, PoolShort}
+use Rattle.mctp.specs.Answer.{Answer, gives, answerNo, answerValues}
+use Rattle.mctp.proofs.Answers.{error-some}
 use Rattle.slot.specs.declared.State.the-variants.{HandleOut}
 use Rattle.mctp.specs.declared.Header.{Header}
 use Rattle.slot.specs.declared.Reassembler.{Reassembler}
@@ -23,11 +23,11 @@ use Rattle.state.specs.Stack.{Stack, slotAt}
 use Rattle.concluding.specs.declared.ReceiveHandle.{ReceiveHandle}
 use Rattle.concluding.specs.declared.Received.{Received}
 use Rattle.concluding.specs.declared.Received.the-variants.{More, Message as Told, Refused}
-use Rattle.concluding.specs.Conclude.{saidOf}
-use Rattle.receiving.specs.Receive.{Receipt, receivedAs, receiveOf}
+use Rattle.concluding.specs.Conclude.{saidOf, handleWords, receivedAs}
+use Rattle.receiving.specs.Receive.{Receipt, receiveOf}
 use Rattle.handling.specs.declared.Fetched.the-variants.{Message as Fetch}
 use Rattle.handling.specs.Handles.{isGood, messageIn, fetchOf}
-use Rattle.promises.specs.Calls.{World, receive, step, receipt}
+use Rattle.promises.specs.Calls.{World, receive, step, receipt, performed}
 use Rattle.promises.specs.History.{takes}
 use Rattle.promises.proofs.Facts.{no-both, no-true}
 use Rattle.promises.proofs.Pool.{slot-le, pool-length}
@@ -41,27 +41,20 @@ fetch-is B h st room r i e =
     rw (le-ltb room (B * length (st .slots)) r, lt-ltb (h .index) (length (st .slots)) i, g)
 
 -- an answer whose number is 0 takes the packet
-refusal-not-zero : (err : Error) (l : List ℕ) → receivedAs (Refused err) ≡ 0 ∷ l → ⊥
-refusal-not-zero InvalidInput l e = let z : _≡_ {A = ℕ} 1 0 = cc in omega arith
-refusal-not-zero NoSpace l e = let z : _≡_ {A = ℕ} 2 0 = cc in omega arith
-refusal-not-zero BadArgument l e = let z : _≡_ {A = ℕ} 3 0 = cc in omega arith
-refusal-not-zero TagUnavailable l e = let z : _≡_ {A = ℕ} 4 0 = cc in omega arith
-refusal-not-zero Unreachable l e = let z : _≡_ {A = ℕ} 5 0 = cc in omega arith
-refusal-not-zero PoolShort l e = let z : _≡_ {A = ℕ} 6 0 = cc in omega arith
+pub zero-takes : (r : Received) → answerNo (receivedAs r) ≡ 0 → takes r ≡ true
+zero-takes More e = refl
+zero-takes (Told h) e = refl
+zero-takes (Refused err) e = absurd (error-some err e)
 
-pub zero-takes : (r : Received) (l : List ℕ) → receivedAs r ≡ 0 ∷ l → takes r ≡ true
-zero-takes More l e = refl
-zero-takes (Told h) l e = refl
-zero-takes (Refused err) l e = absurd (refusal-not-zero err l e)
-
--- an answer whose number is 0 with an index and a number is that handle
-pub as-told : (r : Received) (h : ReceiveHandle) → receivedAs r ≡ 0 ∷ h .index ∷ h .issue ∷ [] → r ≡ Told h
-as-told More h e = let z : _≡_ {A = ℕ} 1 3 = ap length e in absurd (omega arith)
+-- an answer that gives a handle is that handle
+pub as-told : (r : Received) (h : ReceiveHandle) → receivedAs r ≡ gives (handleWords h) → r ≡ Told h
+as-told More h e = let z : _≡_ {A = ℕ} 0 2 = ap (λ (a : Answer). length (answerValues a)) e in absurd (omega arith)
 as-told (Told k) h e =
+    let v : handleWords k ≡ handleWords h = cc in
     let i : k .index ≡ h .index = cc in
     let n : k .issue ≡ h .issue = cc in
     ap (λ (x : ℕ). Told (record { index = x; issue = k .issue })) i ∙ ap (λ (x : ℕ). Told (record { index = h .index; issue = x })) n
-as-told (Refused err) h e = absurd (refusal-not-zero err _ e)
+as-told (Refused err) h e = absurd (error-some err (ap answerNo e))
 
 -- what is told with a handle is a message that is whole, under that slot and number
 told-of : (b : Bool) (i n : ℕ) (h : ReceiveHandle) → saidOf (outcomeOf b) i n ≡ Told h → (b ≡ true) × (record { index = i; issue = n } ≡ h)
@@ -103,7 +96,7 @@ module _ (B : ℕ) (p : List ℕ) (w : World) (h : ReceiveHandle) where
   worth r (took i g t) room e = took-worth r i g t room e
 
   -- whatever came before: where a receive tells a handle, a fetch under it, lent the same pool, gives the message of that slot
-  pub told-fetched : receivedAs (receipt B p w .said) ≡ 0 ∷ h .index ∷ h .issue ∷ []
+  pub told-fetched : performed B (receive p) w ≡ gives (handleWords h)
       → fetchOf B h (step B (receive p) w .stack) (length (step B (receive p) w .pool)) ≡ Fetch (messageIn B (h .index) (slotAt (h .index) (step B (receive p) w .stack)))
   unfolding step Worth
   told-fetched a =

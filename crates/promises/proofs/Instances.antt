@@ -1,4 +1,4 @@
--- The premises of demand 3 can be met, by computation: a fresh stack of 4 slots and 64 free flow places, with 4,128 zero bytes for its pool.
+-- The premises of demand 3 and of `cut-and-joined` can be met, by computation: a fresh stack of 4 slots and 64 free flow places, with 4,128 zero bytes for its pool.
 use Prim.Native.Nat.{ℕ}
 use mathlib.Core.Path.{_≡_, refl, subst}
 use mathlib.Core.Bool.{true, false}
@@ -7,13 +7,17 @@ use lib.Dec.{lit≤}
 use lib.ListN.{replicate}
 use Rattle.octets.specs.Pick.{pick}
 use Rattle.octets.specs.Find.{find}
-use Rattle.octets.specs.Bytes.{over}
+use Rattle.octets.specs.Bytes.{over, part}
+use Rattle.mctp.specs.declared.Eid.{Eid}
 use Rattle.mctp.specs.declared.Key.{Key}
 use Rattle.mctp.specs.declared.MsgType.{MsgType}
 use Rattle.mctp.specs.declared.MsgIC.{MsgIC}
+use Rattle.mctp.specs.declared.Tag.{Tag}
+use Rattle.mctp.specs.declared.Tag.the-variants.{Owned}
 use Rattle.mctp.specs.declared.Cookie.{Cookie}
 use Rattle.mctp.specs.declared.Cookie.the-variants.{Absent, Given}
 use Rattle.mctp.specs.Terms.{sameKey, sameBool}
+use Rattle.mctp.specs.Answer.{gives}
 use Rattle.mctp.specs.Header.{headerOf}
 use Rattle.stamp.specs.Stamp.{next, clocked, expired, timeoutOf}
 use Rattle.flows.specs.Tags.{bitsOf, freeTagOf}
@@ -22,19 +26,23 @@ use Rattle.slot.specs.Slot.{fadedSlot}
 use Rattle.slot.specs.Search.{slotFor}
 use Rattle.reassemble.specs.Enter.{isLocal, opening, gate, gateEmpty, gateReply, enter, append}
 use Rattle.walks.specs.Walks.{leastLeft}
+use Rattle.fragment.specs.declared.Fragmenter.{Fragmenter}
+use Rattle.fragment.specs.Step.{newOf, fresh, stepOf}
 use Rattle.fragment.specs.Cutting.{InTurn, joined, kindIn, Carries}
+use Rattle.fragment.specs.Run.{written, after}
 use Rattle.sending.specs.declared.Send.{Send}
 use Rattle.sending.specs.declared.SendTag.the-variants.{Fresh}
 use Rattle.sending.specs.declared.SendMtu.the-variants.{Own}
 use Rattle.concluding.specs.Conclude.{nextIssue}
-use Rattle.receiving.specs.Receive.{receivedAs, land, receiveAt, receiveBy, receiveOf}
+use Rattle.receiving.specs.Receive.{land, receiveAt, receiveBy, receiveOf}
 use Rattle.sending.specs.Sends.{ownedTag, tagFor, sendAs, startSendOf}
 use Rattle.updating.specs.Update.{checked, updateOf}
 use Rattle.estack.specs.Basics.{freshStack}
-use Rattle.promises.specs.Calls.{World, Call, receive, elsewhere, update, startSend, cancelFlow, finishedReceive, setEid, step, steps, receipt}
+use Rattle.promises.specs.Calls.{World, Call, receive, elsewhere, update, startSend, cancelFlow, finishedReceive, setEid, step, steps, performed}
 use Rattle.promises.specs.Delivery.{messageAt, Delivers, cookieFor, Lawful}
 use Rattle.promises.specs.History.{noted, logged, history, since, gathered, Exactly}
 use Rattle.promises.proofs.HandOut.{hands-out}
+use Rattle.promises.proofs.EndToEnd.{cut-and-joined}
 use Rattle.promises.proofs.Told.{told, told-here}
 
 -- own EID 8, MTU 64, clock 0; 1,032 bytes a body
@@ -95,6 +103,43 @@ unfolding headerOf isLocal find pick sameKey sameBool
 three-met =
     met asks (0xAA ∷ 0xBB ∷ 0xCC ∷ []) three between start Absent
     (record { carries = three-carried; fits = lit≤ tt; source = refl; dest = refl; begins = refl; pool = lit≤ tt; between = refl }) refl
+
+-- ---- cut by a fragmenter, and joined
+
+abbrev peer : Eid
+peer = record { 0 = 9 }
+
+abbrev own : Eid
+own = record { 0 = 8 }
+
+abbrev label : Tag
+label = Owned (record { 0 = 2 })
+
+-- EID 9 cuts for EID 8 under its own tag 2: MTU 6, no cookie, its first packet numbered 3
+abbrev cutter : Fragmenter
+cutter = fresh typ peer own label 6 Absent ic 3
+
+abbrev sent : List ℕ
+sent = 0xAA ∷ 0xBB ∷ 0xCC ∷ []
+
+abbrev cut : List (List ℕ)
+cut = (0x01 ∷ 0x08 ∷ 0x09 ∷ 0xBA ∷ 0x01 ∷ 0xAA ∷ []) ∷ (0x01 ∷ 0x08 ∷ 0x09 ∷ 0x4A ∷ 0xBB ∷ 0xCC ∷ []) ∷ []
+
+-- after the first packet: time passes, and another message comes whole
+abbrev gap : List (List Call)
+gap = (update 5000 ∷ receive other ∷ []) ∷ []
+
+-- what it writes, into buffers of 255 bytes
+pub cut-packets : written cutter sent (255 ∷ 255 ∷ 255 ∷ []) ≡ cut
+unfolding written stepOf pick part
+cut-packets = refl
+
+-- `cut-and-joined` speaks of these packets: they hand out the body
+pub cut-met : Delivers 1032 (record { key = asks; typ = typ; ic = ic; body = sent; cookie = Absent }) cut gap start
+unfolding newOf after stepOf headerOf isLocal find pick sameKey sameBool
+cut-met =
+    subst (λ (ps : List (List ℕ)). Delivers 1032 (record { key = asks; typ = typ; ic = ic; body = sent; cookie = Absent }) ps gap start) cut-packets
+    (cut-and-joined typ peer own label 6 Absent ic 3 cutter refl sent (255 ∷ 255 ∷ 255 ∷ []) refl 1032 gap start (lit≤ tt) refl refl refl (lit≤ tt) refl)
 
 -- ---- a reply, its flow standing
 
@@ -157,7 +202,7 @@ taken = receive [] ∷ receive (0x01 ∷ 0x08 ∷ 0x09 ∷ 0x5A ∷ []) ∷ rece
 abbrev third : List ℕ
 third = 0x01 ∷ 0x08 ∷ 0x09 ∷ 0x5A ∷ 0xBB ∷ 0xCC ∷ []
 
-third-handed : receivedAs (receipt 1032 third (steps 1032 taken start) .said) ≡ 0 ∷ 0 ∷ 1 ∷ []
+third-handed : performed 1032 (receive third) (steps 1032 taken start) ≡ gives (0 ∷ 1 ∷ [])
 unfolding isLocal find pick steps step next updateOf checked clocked expired timeoutOf fadedFlow fadedSlot leastLeft receiveOf receiveBy receiveAt headerOf slotFor gate
     gateEmpty gateReply opening land enter append nextIssue sameKey sameBool over
 third-handed = refl

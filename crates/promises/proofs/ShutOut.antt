@@ -15,6 +15,7 @@ use Rattle.mctp.specs.declared.Key.{Key}
 use Rattle.mctp.specs.declared.MsgType.{MsgType}
 use Rattle.mctp.specs.declared.MsgIC.{MsgIC}
 use Rattle.mctp.specs.declared.Error.the-variants.{InvalidInput}
+use Rattle.mctp.specs.Answer.{answerNo}
 use Rattle.mctp.specs.declared.Header.{Header}
 use Rattle.mctp.specs.declared.HeaderRead.the-variants.{Good}
 use Rattle.mctp.specs.Header.{headerOf, lead}
@@ -56,8 +57,8 @@ use Rattle.promises.proofs.Bits.{howMany, all-bits}
 pub not-refused : (B : ℕ) (K : Key) (typ : MsgType) (ic : MsgIC) (mtu : ℕ) (body p : List ℕ) (ps : List (List ℕ)) (gaps : List (List Call)) (w : World)
     → Lawful B K typ ic mtu body (p ∷ ps) gaps w → takes (receipt B p w .said) ≡ true
 unfolding Delivers
-not-refused B K typ ic mtu body p [] gaps w law = zero-takes (receipt B p w .said) _ (hands-out B K typ ic mtu body (p ∷ []) gaps w law .told)
-not-refused B K typ ic mtu body p (q ∷ ps) gaps w law = zero-takes (receipt B p w .said) _ (hands-out B K typ ic mtu body (p ∷ q ∷ ps) gaps w law .0)
+not-refused B K typ ic mtu body p [] gaps w law = zero-takes (receipt B p w .said) (ap answerNo (hands-out B K typ ic mtu body (p ∷ []) gaps w law .told))
+not-refused B K typ ic mtu body p (q ∷ ps) gaps w law = zero-takes (receipt B p w .said) (ap answerNo (hands-out B K typ ic mtu body (p ∷ q ∷ ps) gaps w law .0))
 
 -- ---- one that hands out the same message always
 

@@ -15,13 +15,14 @@ use Rattle.slot.specs.declared.Reassembler.{Reassembler}
 use Rattle.slot.specs.Slot.{isEmpty}
 use Rattle.reassemble.specs.Enter.{outcomeOf}
 use Rattle.state.specs.Stack.{Stack}
+use Rattle.mctp.specs.Answer.{gives}
 use Rattle.concluding.specs.declared.ReceiveHandle.{ReceiveHandle}
 use Rattle.concluding.specs.declared.Received.{Received}
 use Rattle.concluding.specs.declared.Received.the-variants.{Message as Handed}
-use Rattle.concluding.specs.Conclude.{saidOf}
-use Rattle.receiving.specs.Receive.{Receipt, receivedAs, receiveOf}
+use Rattle.concluding.specs.Conclude.{saidOf, handleWords}
+use Rattle.receiving.specs.Receive.{Receipt, receiveOf}
 use Rattle.handling.specs.Handles.{messageIn}
-use Rattle.promises.specs.Calls.{Call, receive, elsewhere, update, startSend, cancelFlow, getDeferred, getDeferredByCookie, fetchMessage, finishedReceive, returnHandle, setCookie, setEid, eid, isLocalDest, freeTags, World, step, steps, receipt, hasKey}
+use Rattle.promises.specs.Calls.{Call, receive, elsewhere, update, startSend, cancelFlow, getDeferred, getDeferredByCookie, fetchMessage, finishedReceive, returnHandle, setCookie, setEid, eid, isLocalDest, freeTags, World, step, steps, receipt, performed, hasKey}
 use Rattle.promises.specs.Delivery.{readFrom, messageAt, allOf}
 use Rattle.promises.specs.History.{Taken, takes, note, noted, logged, history, lentHere, since, gathered, Exactly}
 use Rattle.promises.proofs.Facts.{no-both, no-true, and-left, and-right, same-refl}
@@ -72,7 +73,7 @@ module _ (B : ℕ) (H : List Taken) (w : World) (v : Inv B H w) (p : List ℕ) (
 -- exactly what was taken under its key since the newest opening packet: numbered in turn modulo four, of the opening packet's type, IC and cookie, and, if
 -- all of it came with the pool that we watch, with those bytes for its body
 pub told : (B : ℕ) (w₀ : World) → allOf isEmpty (w₀ .stack .slots) ≡ true → B * length (w₀ .stack .slots) ≤ length (w₀ .pool)
-    → (cs : List Call) (p : List ℕ) (h : ReceiveHandle) → receivedAs (receipt B p (steps B cs w₀) .said) ≡ 0 ∷ h .index ∷ h .issue ∷ []
+    → (cs : List Call) (p : List ℕ) (h : ReceiveHandle) → performed B (receive p) (steps B cs w₀) ≡ gives (handleWords h)
     → Exactly (messageAt B (h .index) (step B (receive p) (steps B cs w₀))) p (logged B (receive p) (steps B cs w₀) (history B cs w₀ []))
 unfolding step logged pick
 told B w₀ e room cs p h said =
@@ -119,7 +120,7 @@ history-here B (c ∷ cs) q w H a =
 
 -- the same, with that pool at every receive: the body is those bytes, and no condition is left
 pub told-here : (B : ℕ) (w₀ : World) → allOf isEmpty (w₀ .stack .slots) ≡ true → B * length (w₀ .stack .slots) ≤ length (w₀ .pool)
-    → (cs : List Call) → allOf lentHere cs ≡ true → (p : List ℕ) (h : ReceiveHandle) → receivedAs (receipt B p (steps B cs w₀) .said) ≡ 0 ∷ h .index ∷ h .issue ∷ []
+    → (cs : List Call) → allOf lentHere cs ≡ true → (p : List ℕ) (h : ReceiveHandle) → performed B (receive p) (steps B cs w₀) ≡ gives (handleWords h)
     → messageAt B (h .index) (step B (receive p) (steps B cs w₀)) .body
     ≡ gathered (since (messageAt B (h .index) (step B (receive p) (steps B cs w₀)) .key) (logged B (receive p) (steps B cs w₀) (history B cs w₀ [])))
 told-here B w₀ e room cs q p h said =

@@ -1,5 +1,5 @@
--- Every public call on a stack with all its arguments, and what it makes of the stack and of the pool that we watch: through the definitions that the
--- contracts of `estack` cite, and nothing else: it leans on those. B is the most that a body holds.
+-- Every public call on a stack with all its arguments, what it makes of the stack and of the pool that we watch, and what it answers: through the
+-- definitions that the contracts of `estack` cite, and nothing else: it leans on those. B is the most that a body holds.
 -- A receive comes in two kinds: lent the watched pool, or lent any other buffer. No other call writes a pool.
 use Prim.Native.Nat.{ℕ, _+_, _≤_}
 use mathlib.Core.Bool.{Bool, true, false, not, _&&_}
@@ -16,14 +16,17 @@ use Rattle.mctp.specs.declared.HeaderRead.{HeaderRead}
 use Rattle.mctp.specs.declared.HeaderRead.the-variants.{Good, Bad}
 use Rattle.mctp.specs.Terms.{sameKey, sameEid, sameTag}
 use Rattle.mctp.specs.Header.{headerOf}
+use Rattle.mctp.specs.Answer.{Answer, gives, flagWord}
+use Rattle.fragment.specs.Answers.{startedAs}
 use Rattle.state.specs.Stack.{Stack}
 use Rattle.concluding.specs.declared.ReceiveHandle.{ReceiveHandle}
+use Rattle.concluding.specs.Conclude.{receivedAs}
 use Rattle.sending.specs.declared.Send.{Send}
 use Rattle.receiving.specs.Receive.{Receipt, receiveOf}
-use Rattle.handling.specs.Handles.{finishOf, returnOf, cookieOf, bySourceOf, byCookieOf}
+use Rattle.handling.specs.Handles.{doneAs, fetchedAs, deferredAs, fetchOf, finishOf, returnOf, cookieOf, bySourceOf, byCookieOf}
 use Rattle.sending.specs.Sends.{startSendOf}
-use Rattle.updating.specs.Update.{updateOf}
-use Rattle.estack.specs.Basics.{setEidOf, cancelOf}
+use Rattle.updating.specs.Update.{updatedAs, updateOf}
+use Rattle.estack.specs.Basics.{setEidOf, localOf, cancelOf, freeTagsOf}
 
 pub data Call : Type 0 where
   receive : List ℕ → Call  -- a packet, lent the pool that we watch
@@ -70,6 +73,24 @@ step B (setEid n) w = with (setEidOf n (w .stack) .stack) w
 step B eid w = w
 step B (isLocalDest p) w = w
 step B (freeTags peer) w = w
+
+-- what a call answers, in document 01's numbers
+abbrev pub performed : ℕ → Call → World → Answer
+performed B (receive p) w = receivedAs (receipt B p w .said)
+performed B (elsewhere n p) w = receivedAs (receiveOf B (w .stack) n p .said)
+performed B (update t) w = updatedAs (updateOf t (w .stack) .said)
+performed B (startSend q) w = startedAs (startSendOf q (w .stack) .said)
+performed B (cancelFlow peer tag) w = doneAs (cancelOf peer tag (w .stack) .said)
+performed B (getDeferred source tag) w = deferredAs (bySourceOf source tag (w .stack) .said)
+performed B (getDeferredByCookie cookies) w = deferredAs (byCookieOf cookies (w .stack) .said)
+performed B (fetchMessage h n) w = fetchedAs (fetchOf B h (w .stack) n)
+performed B (finishedReceive h) w = doneAs (finishOf h (w .stack) .said)
+performed B (returnHandle h) w = doneAs (returnOf h (w .stack) .said)
+performed B (setCookie h cookie) w = doneAs (cookieOf h cookie (w .stack) .said)
+performed B (setEid n) w = doneAs (setEidOf n (w .stack) .said)
+performed B eid w = gives (w .stack .head .«own_eid» .0 ∷ [])
+performed B (isLocalDest p) w = gives (flagWord (localOf p (w .stack)) ∷ [])
+performed B (freeTags peer) w = gives (freeTagsOf peer (w .stack) ∷ [])
 
 unfoldable pub steps : ℕ → List Call → World → World
 steps B [] w = w

@@ -16,6 +16,7 @@ use Rattle.mctp.specs.declared.MsgIC.{MsgIC}
 use Rattle.mctp.specs.declared.Cookie.{Cookie}
 use Rattle.mctp.specs.declared.Cookie.the-variants.{Absent}
 use Rattle.mctp.specs.Terms.{sameEid, anyEid}
+use Rattle.mctp.specs.Answer.{gives}
 use Rattle.flows.specs.Table.{standing, flowCookie}
 use Rattle.slot.specs.declared.Reassembler.{Reassembler}
 use Rattle.slot.specs.Slot.{isEmpty, collects}
@@ -23,11 +24,11 @@ use Rattle.reassemble.specs.Enter.{isLocal}
 use Rattle.state.specs.Stack.{Stack, slotAt}
 use Rattle.fragment.specs.Cutting.{Carries}
 use Rattle.concluding.specs.declared.ReceiveHandle.{ReceiveHandle}
-use Rattle.receiving.specs.Receive.{receivedAs}
+use Rattle.concluding.specs.Conclude.{handleWords}
 use Rattle.handling.specs.declared.Message.{Message as Facts}
 use Rattle.handling.specs.declared.Fetched.the-variants.{Message as Fetch}
 use Rattle.handling.specs.Handles.{messageIn, fetchOf}
-use Rattle.promises.specs.Calls.{World, Call, receive, step, steps, receipt, permitted}
+use Rattle.promises.specs.Calls.{World, Call, receive, step, steps, performed, permitted}
 
 -- what is handed out: key, type, IC, body and cookie
 pub record Message : Type 0 where
@@ -48,7 +49,7 @@ messageAt B i w = readFrom (w .pool) (messageIn B i (slotAt i (w .stack)))
 -- the packet p hands out m: it is answered 0 with a handle's index and number, and a fetch under that handle, lent the same pool, gives m
 pub record Hands (B : ℕ) (m : Message) (p : List ℕ) (w : World) : Type 0 where
   pub handle : ReceiveHandle
-  pub told : receivedAs (receipt B p w .said) ≡ 0 ∷ handle .index ∷ handle .issue ∷ []
+  pub told : performed B (receive p) w ≡ gives (handleWords handle)
   pub facts : Facts
   pub fetched : fetchOf B handle (step B (receive p) w .stack) (length (step B (receive p) w .pool)) ≡ Fetch facts
   pub message : readFrom (step B (receive p) w .pool) facts ≡ m
@@ -67,7 +68,7 @@ unfoldable pub Delivers : ℕ → Message → List (List ℕ) → List (List Cal
 Delivers B m [] gaps w = ⊥
 Delivers B m (p ∷ []) gaps w = Hands B m p w
 Delivers B m (p ∷ q ∷ ps) gaps w =
-    (receivedAs (receipt B p w .said) ≡ 0 ∷ []) × Delivers B m (q ∷ ps) (laterGaps gaps) (steps B (nextGap gaps) (step B (receive p) w))
+    (performed B (receive p) w ≡ gives []) × Delivers B m (q ∷ ps) (laterGaps gaps) (steps B (nextGap gaps) (step B (receive p) w))
 
 abbrev pub allOf : {A : Type 0} → (A → Bool) → List A → Bool
 allOf f [] = true

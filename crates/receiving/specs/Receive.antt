@@ -4,7 +4,7 @@
 use Prim.Native.Nat.{ℕ, _+_, _-_, _*_}
 use mathlib.Core.Path.{_≡_}
 use mathlib.Core.Bool.{Bool, false}
-use mathlib.Core.List.{List, [], _∷_}
+use mathlib.Core.List.{List, []}
 use lib.Dec.{ltb, leb, eqb}
 use lib.ListN.{length, drop}
 use Rattle.octets.specs.Pick.{pick}
@@ -15,7 +15,6 @@ use Rattle.mctp.specs.declared.HeaderRead.{HeaderRead}
 use Rattle.mctp.specs.declared.HeaderRead.the-variants.{Good, Bad}
 use Rattle.mctp.specs.declared.Error.{Error}
 use Rattle.mctp.specs.declared.Error.the-variants.{InvalidInput, NoSpace, PoolShort}
-use Rattle.mctp.specs.Terms.{errorNo}
 use Rattle.mctp.specs.Header.{headerOf}
 use Rattle.flows.specs.Table.{standing, flowCookie}
 use Rattle.reassemble.specs.declared.Entry.{Entry}
@@ -29,7 +28,7 @@ use Rattle.state.specs.declared.Sizes.{Sizes}
 use Rattle.state.specs.Stack.{Stack, Becomes, slotAt, reslot}
 use Rattle.walks.specs.Walks.{ticked}
 use Rattle.concluding.specs.declared.Received.{Received}
-use Rattle.concluding.specs.declared.Received.the-variants.{More, Message, Refused}
+use Rattle.concluding.specs.declared.Received.the-variants.{Refused}
 use Rattle.concluding.specs.Conclude.{nextIssue, saidOf, concluded}
 
 pub record Receipt : Type 0 where
@@ -41,12 +40,6 @@ pub record Receipt : Type 0 where
 -- a refusal writes nothing
 abbrev pub refuse : Error → Stack → Receipt
 refuse err st = record { stack = st; said = Refused err; at = 0; bytes = [] }
-
--- an answer in document 01's numbers: 0 while more is to come; 0, the slot's index and the handle's number with a message; else the refusal's number
-abbrev pub receivedAs : Received → List ℕ
-receivedAs More = 0 ∷ []
-receivedAs (Message h) = 0 ∷ h .index ∷ h .issue ∷ []
-receivedAs (Refused err) = errorNo err ∷ []
 
 -- one store of one slot, one write to the pool, then the flow
 abbrev pub settled : ℕ → ℕ → Stack → Key → List ℕ → Entry → Receipt

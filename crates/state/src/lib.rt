@@ -1,4 +1,4 @@
-// The stack's state, kept in bytes that the caller lends: where each part lies, its codec, and its accessors. Nothing above opens a byte.
+// The stack's state, kept in bytes that the caller lends: where each part lies, its codec, and its accessors. Nothing above reads a byte's meaning.
 // A head of 40 bytes, 64 flow places of 32, then the slots of 40, last, so that their number moves no offset.
 // Leans on `octets` for numbers in bytes and blocks, on `flows` and `slot` for the records. Definitions: specs/Layout.antt, Head.antt, Slot.antt, Stack.antt.
 ghost use mathlib.Core.Path.{_≡_};
@@ -27,15 +27,15 @@ use slot::Reassembler;
 use slot::State;
 use stamp::EventStamp;
 
-const HEAD_WIDTH: usize = 40;
+pub const HEAD_WIDTH: usize = 40;
 
-const FLOW_WIDTH: usize = 32;
+pub const FLOW_WIDTH: usize = 32;
 
 pub const SLOT_WIDTH: usize = 40;
 
 pub const FLOW_COUNT: usize = 64;
 
-const FLOWS_AT: usize = HEAD_WIDTH;
+pub const FLOWS_AT: usize = HEAD_WIDTH;
 
 pub const SLOTS_AT: usize = FLOWS_AT + FLOW_WIDTH * FLOW_COUNT;
 
@@ -101,7 +101,7 @@ impl Head {
 
 // ---- a head in 40 bytes
 
-fn read_head(b: &[u8]) -> Head
+pub fn read_head(b: &[u8]) -> Head
     ensures { λ r. ⌜ r ≡ headOf (now (b .entry)) ⌝ }
 {
     let own = Eid(get1(b, 0));
@@ -127,7 +127,7 @@ fn read_head(b: &[u8]) -> Head
     }
 }
 
-fn write_head(b: &mut [u8], h: Head)
+pub fn write_head(b: &mut [u8], h: Head)
     ensures { λ _. ⌜ now (b .exit) ≡ lay 0 (headBytes h) (now (b .entry)) ⌝ }
 {
     put1(b, 0, h.own_eid.0);
@@ -181,7 +181,7 @@ fn owner_tag(key: Key) -> u8
     mctp::bit_of(key.owner, 8) + key.tag.0
 }
 
-fn read_slot(b: &[u8]) -> Reassembler
+pub fn read_slot(b: &[u8]) -> Reassembler
     ensures { λ r. ⌜ r ≡ slotOf (now (b .entry)) ⌝ }
 {
     let dest = Eid(get1(b, 1));
@@ -241,7 +241,7 @@ fn write_rest(b: &mut [u8], counter: u32, has: u32, clock: u64, value: u64, issu
     put8(b, 32, issue);
 }
 
-fn write_slot(b: &mut [u8], s: Reassembler)
+pub fn write_slot(b: &mut [u8], s: Reassembler)
     requires { ⌜ (s .key .tag .0 < 8) × (s .len < 2 ^ 16) ⌝ }
     ensures { λ _. ⌜ now (b .exit) ≡ lay 0 (slotBytes s) (now (b .entry)) ⌝ }
 {

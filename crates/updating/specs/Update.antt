@@ -3,10 +3,12 @@
 -- Leans on `walks` for what a check finds, on `flows` and `slot` for what expires.
 use Prim.Native.Nat.{ℕ, _+_, _-_, min}
 use mathlib.Core.Bool.{Bool, true, false}
-use mathlib.Core.List.{map}
+use mathlib.Core.List.{[], _∷_, map}
 use lib.Dec.{ltb}
 use Rattle.octets.specs.Pick.{pick}
 use Rattle.mctp.specs.declared.Error.the-variants.{InvalidInput}
+use Rattle.mctp.specs.Terms.{errorNo}
+use Rattle.mctp.specs.Answer.{Answer, gives, refuses, flagWord}
 use Rattle.stamp.specs.Stamp.{clocked}
 use Rattle.flows.specs.Table.{fadedFlow}
 use Rattle.slot.specs.Slot.{fadedSlot}
@@ -19,6 +21,11 @@ use Rattle.updating.specs.declared.Updated.the-variants.{Next, Refused}
 pub record Update : Type 0 where
   pub stack : Stack
   pub said : Updated
+
+-- 0, the milliseconds until the next check and whether something expired
+abbrev pub updatedAs : Updated → Answer
+updatedAs (Next millis expired) = gives (millis ∷ flagWord expired ∷ [])
+updatedAs (Refused err) = refuses (errorNo err) []
 
 -- a check is planned at most so often
 abbrev pub interval : ℕ

@@ -12,8 +12,10 @@ use Rattle.mctp.specs.declared.Cookie.{Cookie}
 use Rattle.mctp.specs.declared.Cookie.the-variants.{Absent, Given}
 use Rattle.mctp.specs.Terms.{tagOf, isOwner, tagUnder, cookieNo, cookieValue}
 use Rattle.fragment.specs.declared.Fragmenter.{Fragmenter}
+use Rattle.mctp.specs.Answer.{flagWord}
 use Rattle.fragment.specs.Step.{advancedBy}
-use Rattle.words.specs.Words.{flagWord, isYes, narrow, tagFrom, cookieFrom, wordsOf, advancedRow, fragmenterOf}
+use Rattle.fragment.specs.Answers.{wordsOf}
+use Rattle.words.specs.Words.{isYes, narrow, tagFrom, cookieFrom, advancedRow, fragmenterOf}
 
 flag-back : (b : Bool) → isYes (flagWord b) ≡ b
 flag-back true = refl

@@ -1,6 +1,6 @@
--- Records as rows of 64-bit numbers, for callers that hold only numbers: a send, a fragmenter, a handle, a message.
--- A yes or no is written 1 or 0, and any number but 0 is read as yes.
--- Leans on the records of `mctp`, `fragment`, `sending`, `concluding` and `handling`.
+-- Rows of 64-bit numbers read as records, for callers that hold only numbers: a send, a fragmenter. What a row says of an answer stands beside the
+-- record: `handleWords`, `messageWords`, `wordsOf`. Any number but 0 is read as yes.
+-- Leans on the records of `mctp`, `fragment` and `sending`.
 use Prim.Native.Nat.{ℕ, _%_}
 use mathlib.Core.Bool.{Bool, true, false}
 use mathlib.Core.List.{List, [], _∷_}
@@ -10,10 +10,9 @@ use Rattle.octets.specs.Pick.{pick}
 use Rattle.mctp.specs.declared.Tag.{Tag}
 use Rattle.mctp.specs.declared.Cookie.{Cookie}
 use Rattle.mctp.specs.declared.Cookie.the-variants.{Absent, Given}
-use Rattle.mctp.specs.Terms.{tagOf, isOwner, tagUnder, cookieNo, cookieValue}
+use Rattle.mctp.specs.Terms.{tagUnder}
+use Rattle.mctp.specs.Answer.{flagWord}
 use Rattle.fragment.specs.declared.Fragmenter.{Fragmenter}
-use Rattle.concluding.specs.declared.ReceiveHandle.{ReceiveHandle}
-use Rattle.handling.specs.declared.Message.{Message}
 use Rattle.sending.specs.declared.Send.{Send}
 use Rattle.sending.specs.declared.SendTag.{SendTag}
 use Rattle.sending.specs.declared.SendTag.the-variants.{Fresh, Given as This}
@@ -23,10 +22,6 @@ use Rattle.sending.specs.declared.SendMtu.the-variants.{Own, AtMost}
 -- word i of a row
 abbrev pub word : ℕ → List ℕ → ℕ
 word i w = getD w i 0
-
-abbrev pub flagWord : Bool → ℕ
-flagWord true = 1
-flagWord false = 0
 
 abbrev pub isYes : ℕ → Bool
 isYes w = ltb 0 w
@@ -67,23 +62,7 @@ sendOf w = record {
   cookie = cookieFrom (isYes (word 8 w)) (word 9 w);
 }
 
--- A fragmenter: source, destination, type, TO, tag, IC, sequence, MTU, first, done, has a cookie, cookie, bytes sent.
-abbrev pub wordsOf : Fragmenter → List ℕ
-wordsOf f =
-    f .src .0
-    ∷ f .dest .0
-    ∷ f .typ .0
-    ∷ flagWord (isOwner (f .tag))
-    ∷ tagOf (f .tag) .0
-    ∷ flagWord (f .ic .0)
-    ∷ f .seq
-    ∷ f .mtu
-    ∷ flagWord (f .first)
-    ∷ flagWord (f .done)
-    ∷ cookieNo (f .cookie)
-    ∷ cookieValue (f .cookie)
-    ∷ f .«payload_used»
-    ∷ []
+-- The row of a fragmenter is `wordsOf` (fragment, Answers).
 
 -- the row after a packet: sequence, first, done and the bytes sent are the next fragmenter's, the other words stay
 abbrev pub advancedRow : Fragmenter → List ℕ → List ℕ
@@ -103,22 +82,3 @@ fragmenterOf w = record {
   cookie = cookieFrom (isYes (word 10 w)) (word 11 w);
   «payload_used» = word 12 w;
 }
-
--- A handle: index, issue number. No handle has issue number 0.
-abbrev pub handleWords : ReceiveHandle → List ℕ
-handleWords h = h .index ∷ h .issue ∷ []
-
--- A message: source, destination, TO, tag, type, IC, has a cookie, cookie, the body's place in the pool and its length.
-abbrev pub messageWords : Message → List ℕ
-messageWords m =
-    m .key .source .0
-    ∷ m .key .dest .0
-    ∷ flagWord (m .key .owner)
-    ∷ m .key .tag .0
-    ∷ m .typ .0
-    ∷ flagWord (m .ic .0)
-    ∷ cookieNo (m .cookie)
-    ∷ cookieValue (m .cookie)
-    ∷ m .at
-    ∷ m .len
-    ∷ []

@@ -3,7 +3,11 @@
 // Leans on `mctp`, `fragment`, `sending`, `concluding` and `handling` for the records.
 ghost use mathlib.Core.Path.{_≡_};
 ghost use Prim.Native.Nat.{_≤_, _<_};
-ghost use Rattle.words.specs.Words.{flagWord, isYes, narrow, tagFrom, cookieFrom, wordsOf, advancedRow, fragmenterOf, handleWords, messageWords, lawful, sendOf, sendTagFrom, sendMtuFrom};
+ghost use Rattle.mctp.specs.Answer.{flagWord};
+ghost use Rattle.fragment.specs.Answers.{wordsOf};
+ghost use Rattle.concluding.specs.Conclude.{handleWords};
+ghost use Rattle.handling.specs.Handles.{messageWords};
+ghost use Rattle.words.specs.Words.{isYes, narrow, tagFrom, cookieFrom, advancedRow, fragmenterOf, lawful, sendOf, sendTagFrom, sendMtuFrom};
 use concluding::ReceiveHandle;
 use fragment::Fragmenter;
 use handling::Message;

@@ -2,7 +2,8 @@ use borrow.Author.Needs.{needs}
 use mathlib.Core.Path.{ap, _∙_}
 use denote.Ref.{now}
 use Rattle.handling.specs.declared.Fetched.{Fetched}
-use Rattle.answers.specs.Answers.{fetchedNo, messageAfter}
+use Rattle.mctp.specs.Answer.{answerNo, rowAfter}
+use Rattle.handling.specs.Handles.{fetchedAs}
 use Rattle.board.proofs.calls.hyphaloom_fetch_message.Statement.{statement}
 use Rattle.board.proofs.calls.hyphaloom_fetch_message.Tie as tie
 
@@ -21,7 +22,7 @@ returns c =
     let s = h .before .before .before in
     let e = rw (h .handle-of .ensures) at (c .before .before .fetch-message .ensures) in
     let p = c .put-message .ensures in
-    (p .0 ∙ ap fetchedNo e, p .1 ∙ ap (λ (x : Fetched). messageAfter x (now (s .args .message))) e)
+    (p .0 ∙ ap (λ (x : Fetched). answerNo (fetchedAs x)) e, p .1 ∙ ap (λ (x : Fetched). rowAfter 10 (fetchedAs x) (now (s .args .message))) e)
 
 pub hyphaloom-fetch-message-spec : {M : Type 1} → statement M
 hyphaloom-fetch-message-spec =

@@ -8,7 +8,9 @@ use Rattle.fragment.specs.declared.Fragmenter.{Fragmenter}
 use Rattle.fragment.specs.Step.{Step, stepOf}
 use Rattle.fragment.proofs.Plans.{step-planned}
 use Rattle.words.specs.Words.{fragmenterOf}
-use Rattle.answers.specs.Answers.{stepNo, lengthAfter, steppedAfter}
+use Rattle.mctp.specs.Answer.{answerNo}
+use Rattle.fragment.specs.Answers.{outputAs}
+use Rattle.answers.specs.Answers.{lengthAfter, steppedAfter}
 use Rattle.board.proofs.calls.hyphaloom_fragment.Statement.{statement}
 use Rattle.board.proofs.calls.hyphaloom_fragment.Tie as tie
 
@@ -38,9 +40,9 @@ returns c =
     let out = now (s .out) in
     let f = l .before .fragmenter-of .ensures in
     let e = step-planned (fragmenterOf row) payload (length out) (rw f at (l .plan .ensures .0)) in (
-      p .put-step .ensures .0 ∙ ap (λ (x : Step). stepNo (x .result .output)) e,
+      p .put-step .ensures .0 ∙ ap (λ (x : Step). answerNo (outputAs (x .result .output))) e,
       (
-        p .put-step .ensures .1 .0 ∙ ap (λ (x : Step). lengthAfter (x .result .output) (now (s .len))) e,
+        p .put-step .ensures .1 .0 ∙ ap (λ (x : Step). lengthAfter (outputAs (x .result .output)) (now (s .len))) e,
         (
           p .put-step .ensures .1 .1 ∙ ap (λ (x : Step). steppedAfter (x .result .next) (x .result .output) row) e,
           w .write .ensures ∙ ap (λ (g : Fragmenter). over 0 (stepOf g payload (length out) .bytes) out) f,

@@ -2,7 +2,8 @@ use borrow.Author.Needs.{needs}
 use mathlib.Core.Path.{ap, _∙_}
 use denote.Ref.{now}
 use Rattle.concluding.specs.declared.Received.{Received}
-use Rattle.answers.specs.Answers.{receivedNo, handleAfter}
+use Rattle.mctp.specs.Answer.{answerNo, rowAfter}
+use Rattle.concluding.specs.Conclude.{receivedAs}
 use Rattle.board.proofs.calls.hyphaloom_receive.Statement.{statement}
 use Rattle.board.proofs.calls.hyphaloom_receive.Tie as tie
 
@@ -23,7 +24,7 @@ returns c =
     let s = c .before .before .before .before .before .before .before .before .before .before .before .before in
     let e = c .before .before .before .before .before .before .receive .ensures in
     let p = c .put-received .ensures in
-    (p .0 ∙ ap receivedNo (e .said), (e .stack, (e .bytes, p .1 ∙ ap (λ (x : Received). handleAfter x (now (s .args .handle))) (e .said))))
+    (p .0 ∙ ap (λ (x : Received). answerNo (receivedAs x)) (e .said), (e .stack, (e .bytes, p .1 ∙ ap (λ (x : Received). rowAfter 2 (receivedAs x) (now (s .args .handle))) (e .said))))
 
 pub hyphaloom-receive-spec : {M : Type 1} → statement M
 hyphaloom-receive-spec =

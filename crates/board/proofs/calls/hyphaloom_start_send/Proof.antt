@@ -4,7 +4,8 @@ use denote.Ref.{now}
 use Rattle.octets.specs.Pick.{pick}
 use Rattle.fragment.specs.declared.Started.{Started}
 use Rattle.state.proofs.StackLaws.{stays}
-use Rattle.answers.specs.Answers.{startedNo, fragmenterAfter}
+use Rattle.mctp.specs.Answer.{answerNo, rowAfter}
+use Rattle.fragment.specs.Answers.{startedAs}
 use Rattle.board.specs.Board.{board, startOf}
 use Rattle.board.proofs.calls.hyphaloom_start_send.Statement.{statement}
 use Rattle.board.proofs.calls.hyphaloom_start_send.Tie as tie
@@ -31,7 +32,7 @@ returns c =
     let l = sym (c .before .before .before .before .before .before .before .before .is-lawful .ensures) ∙ c .before .before .before .before .before .before .before .if1 .taken in
     let u = rw (c .before .before .before .before .before .send-of .ensures) at (c .before .before .before .before .start-send .ensures) in
     let p = c .put-started .ensures in
-    rw l (p .0 ∙ ap startedNo (u .0), (u .1, p .1 ∙ ap (λ (x : Started). fragmenterAfter x (now (s .args .fragmenter))) (u .0)))
+    rw l (p .0 ∙ ap (λ (x : Started). answerNo (startedAs x)) (u .0), (u .1, p .1 ∙ ap (λ (x : Started). rowAfter 13 (startedAs x) (now (s .args .fragmenter))) (u .0)))
 
 returns-2 : tie.Need-returns-2
 unfolding startOf pick

@@ -2,7 +2,8 @@ use borrow.Author.Needs.{needs}
 use mathlib.Core.Path.{ap, _∙_}
 use denote.Ref.{now}
 use Rattle.updating.specs.declared.Updated.{Updated}
-use Rattle.answers.specs.Answers.{updatedNo, nextAfter}
+use Rattle.mctp.specs.Answer.{answerNo, rowAfter}
+use Rattle.updating.specs.Update.{updatedAs}
 use Rattle.board.proofs.calls.hyphaloom_update.Statement.{statement}
 use Rattle.board.proofs.calls.hyphaloom_update.Tie as tie
 
@@ -21,7 +22,7 @@ returns c =
     let s = u .before .before .before in
     let e = u .update .ensures in
     let p = c .put-next .ensures in
-    (p .0 ∙ ap updatedNo (e .0), (e .1, p .1 ∙ ap (λ (x : Updated). nextAfter x (now (s .args .next))) (e .0)))
+    (p .0 ∙ ap (λ (x : Updated). answerNo (updatedAs x)) (e .0), (e .1, p .1 ∙ ap (λ (x : Updated). rowAfter 2 (updatedAs x) (now (s .args .next))) (e .0)))
 
 pub hyphaloom-update-spec : {M : Type 1} → statement M
 hyphaloom-update-spec = tie.close (tie.spec update-requires put-next-requires same-length returns)

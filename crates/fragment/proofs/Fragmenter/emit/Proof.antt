@@ -1,4 +1,5 @@
 -- `emit` meets its contract: the sizes that it computes are those of the definition.
+use Rattle.fragment.proofs.Cuts.{lead-most}
 use Rattle.fragment.proofs.Plans.{emits}
 use borrow.Author.Needs.{needs}
 use Rattle.fragment.proofs.Fragmenter.emit.Statement.{statement}
@@ -32,7 +33,9 @@ encode-type-ic-requires : tie.Need-encode-type-ic-requires
 encode-type-ic-requires c κs = search needs
 
 add-t13 : tie.Need-add-t13
-add-t13 c = search needs
+add-t13 c =
+    let m = lead-most (c .before .before .before .before .before .before .before .args .self .first) in
+    search needs
 
 returns : tie.Need-returns
 returns c =

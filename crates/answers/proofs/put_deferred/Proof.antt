@@ -1,6 +1,6 @@
 use borrow.Author.Needs.{needs}
-use Rattle.answers.proofs.deferred_words.Statement.{statement}
-use Rattle.answers.proofs.deferred_words.Tie as tie
+use Rattle.answers.proofs.put_deferred.Statement.{statement}
+use Rattle.answers.proofs.put_deferred.Tie as tie
 
 enum-known-d : tie.Need-enum-known-d
 enum-known-d c = search needs
@@ -17,6 +17,6 @@ returns c = rw (c .before .before .d .given .1) (c .handle-words .ensures)
 returns-2 : tie.Need-returns-2
 returns-2 c = search needs
 
-pub deferred-words-spec : {M : Type 1} → statement M
-deferred-words-spec =
+pub put-deferred-spec : {M : Type 1} → statement M
+put-deferred-spec =
     tie.close (tie.spec enum-known-d handle-words-requires enum-told returns returns-2)

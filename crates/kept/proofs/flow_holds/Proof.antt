@@ -1,0 +1,72 @@
+-- The flow is read, and its tag tested; written anew it is the block where that is a flow's (`reheld`).
+use mathlib.Core.Path.{refl}
+use native.Mathlib.Omega.{arith}
+use denote.Ref.{now}
+use Rattle.flows.specs.Codec.{flowCodec, flowWidth}
+use Rattle.flows.proofs.CodecLaws.{flow-lawful}
+use Rattle.kept.proofs.TellLaws.{says-no}
+use Rattle.kept.proofs.BlockLaws.{unheld, reheld}
+use Rattle.kept.proofs.RangeLaws.{flow-ranged}
+use borrow.Author.Needs.{needs}
+use Rattle.kept.proofs.flow_holds.Statement.{statement}
+use Rattle.kept.proofs.flow_holds.Tie as tie
+
+add-end : tie.Need-add-end
+add-end c = search needs
+
+sub-w : tie.Need-sub-w
+sub-w c = search needs
+
+part-w-start : tie.Need-part-w-start
+part-w-start c = search needs
+
+part-w-end : tie.Need-part-w-end
+part-w-end c = search needs
+
+read-flow-requires : tie.Need-read-flow-requires
+read-flow-requires c κs = search needs
+
+returns : tie.Need-returns
+returns c =
+    let r = c .before .before in
+    let s = r .before .before .before in
+    says-no (unheld flowCodec (s .args .at) (now (s .args .state)) (r .read-flow .ensures) (λ ok. let t = ok .tag in omega arith))
+
+slice-aggregate-write-flow : tie.Need-slice-aggregate-write-flow
+slice-aggregate-write-flow c = search needs
+
+write-flow-requires : tie.Need-write-flow-requires
+write-flow-requires c κs = search needs
+
+slice-aggregate-same-bytes : tie.Need-slice-aggregate-same-bytes
+slice-aggregate-same-bytes c = search needs
+
+same-bytes-requires : tie.Need-same-bytes-requires
+same-bytes-requires c κs = search needs
+
+returns-2 : tie.Need-returns-2
+returns-2 c =
+    let w = c .before .before .before in
+    let i = w .before .before in
+    let r = i .before .before in
+    let k = r .before .before in
+    let at = k .before .args .at in
+    let b = now (k .before .args .state) in
+    let ok = flow-ranged at flowWidth b (k .shared-slice-known .given) (r .read-flow .ensures) (search needs) in
+    reheld flowCodec at b (r .read-flow .ensures) flow-lawful ok _ _ refl (w .write-flow .ensures) (c .same-bytes .ensures)
+
+pub flow-holds-spec : {M : Type 1} → statement M
+flow-holds-spec =
+    tie.close
+    (tie.spec
+    add-end
+    sub-w
+    part-w-start
+    part-w-end
+    read-flow-requires
+    returns
+    slice-aggregate-write-flow
+    write-flow-requires
+    slice-aggregate-same-bytes
+    same-bytes-requires
+    returns-2)
