@@ -25,3 +25,4 @@ pub mod ShutOut
 pub mod EndToEnd
 pub mod Figures
 pub mod Stale
+pub mod Issues

@@ -80,12 +80,12 @@ next-above st n h c =
 -- ---- what a call does to a slot and to the count
 
 -- a slot's state before and after, and the count before
-data Renumbered (n : ℕ) (f f′ : State) : Type 0 where
+pub data Renumbered (n : ℕ) (f f′ : State) : Type 0 where
   same : f′ ≡ f → Renumbered n f f′
   idle : outState f′ ≡ false → Renumbered n f f′
   fresh : f′ ≡ HandleOut (nextIssue n) → Renumbered n f f′
 
-record Numbers (st st′ : Stack) : Type 0 where
+pub record Numbers (st st′ : Stack) : Type 0 where
   pub each : (k : ℕ) → Renumbered (st .head .issue) (slotAt k st .state) (slotAt k st′ .state)
   pub count : st .head .issue ≤ st′ .head .issue
 
@@ -213,7 +213,7 @@ eid-numbers (NotNormal err) st = unmoved st
 -- ---- by a receive
 
 -- the count n goes up or stays, and a handle that is told of has the next number, which is then the count
-record Counted (n : ℕ) (r : Receipt) : Type 0 where
+pub record Counted (n : ℕ) (r : Receipt) : Type 0 where
   pub count : n ≤ r .stack .head .issue
   pub next : (h : ReceiveHandle) → r .said ≡ Told h → (h .issue ≡ nextIssue n) × (r .stack .head .issue ≡ nextIssue n)
 
@@ -246,7 +246,7 @@ module _ (B : ℕ) (st : Stack) (p : List ℕ) where
       pick-cases (λ (x : Stack). Counted (st .head .issue) (land B i x h p (gateOf i st h))) (λ _. land-counted i (ticked st) h (gateOf i st h))
       (λ _. land-counted i st h (gateOf i st h))
 
-  receive-counted : (room : ℕ) → Counted (st .head .issue) (receiveOf B st room p)
+  pub receive-counted : (room : ℕ) → Counted (st .head .issue) (receiveOf B st room p)
   unfolding receiveOf receiveBy
   receive-counted room =
       pick-cases P (λ _. refused _ st) (λ _. pick-cases P (λ _. at-counted (slotFor (headerOf p) (st .slots)) (headerOf p)) (λ _. refused _ st))
@@ -273,7 +273,7 @@ module _ (B : ℕ) (st : Stack) (p : List ℕ) where
 
 -- ---- every call
 
-numbers : (B : ℕ) (c : Call) (w : World) → Numbers (w .stack) (step B c w .stack)
+pub numbers : (B : ℕ) (c : Call) (w : World) → Numbers (w .stack) (step B c w .stack)
 unfolding step
 numbers B (receive p) w = receive-numbers B (w .stack) p (length (w .pool))
 numbers B (elsewhere n p) w = receive-numbers B (w .stack) p n
@@ -318,14 +318,14 @@ out-in : (h : ReceiveHandle) (st : Stack) → handleIs (h .issue) (slotAt (h .in
 out-in h st y = passes-in (handleIs (h .issue)) blankSlot refl (st .slots) (h .index) y
 
 -- a handle is good where it is out: past the slots there is none
-good-is : (h : ReceiveHandle) (st : Stack) → isGood h st ≡ handleIs (h .issue) (slotAt (h .index) st)
+pub good-is : (h : ReceiveHandle) (st : Stack) → isGood h st ≡ handleIs (h .issue) (slotAt (h .index) st)
 unfolding isGood
 good-is h st =
     pick-cases (λ (b : Bool). b ≡ handleIs (h .issue) (slotAt (h .index) st)) (λ _. refl)
     (λ e. sym (is-false (handleIs (h .issue) (slotAt (h .index) st))
     (λ y. omega (arith, ltb-false (h .index) (length (st .slots)) e, out-in h st y))))
 
-idle-issue : (m : ℕ) (f : State) → outState f ≡ false → issueIs m f ≡ false
+pub idle-issue : (m : ℕ) (f : State) → outState f ≡ false → issueIs m f ≡ false
 idle-issue m Empty e = refl
 idle-issue m Collecting e = refl
 idle-issue m Done e = refl

@@ -1,0 +1,102 @@
+-- Demand 3, first half, of what is performed: `hands-out` carried over from the model to calls made by `perform`.
+use Prim.Native.Nat.{ℕ}
+use native.Mathlib.Omega.{arith}
+use mathlib.Core.Path.{_≡_, refl, sym, ap, subst, _∙_}
+use mathlib.Core.List.{List, [], _∷_}
+use lib.ListN.{length}
+use Rattle.mctp.specs.declared.Key.{Key}
+use Rattle.mctp.specs.declared.MsgType.{MsgType}
+use Rattle.mctp.specs.declared.MsgIC.{MsgIC}
+use Rattle.mctp.specs.Answer.{Answer, gives, answerNo, answerValues, rowAfter}
+use Rattle.mctp.proofs.Answers.{error-some}
+use Rattle.state.specs.Stack.{Stack, stackOf, Kept}
+use Rattle.concluding.specs.declared.Received.{Received}
+use Rattle.concluding.specs.declared.Received.the-variants.{More, Message as Whole, Refused}
+use Rattle.concluding.specs.Conclude.{receivedAs}
+use Rattle.handling.specs.declared.Fetched.{Fetched}
+use Rattle.handling.specs.declared.Fetched.the-variants.{Message as Fetch}
+use Rattle.handling.specs.Handles.{fetchedAs, fetchOf}
+use Rattle.promises.specs.Calls.{World, receive, fetchMessage, step, steps, receipt}
+use Rattle.promises.specs.Delivery.{Message, Hands, Delivers, readFrom, cookieFor, Lawful}
+use Rattle.promises.proofs.Fetch.{as-told}
+use Rattle.promises.proofs.HandOut.{hands-out}
+use Rattle.promises.proofs.Issues.{told-some}
+use Rattle.board.specs.Board.{board}
+use Rattle.performing.specs.Perform.{Performs, tells}
+use Rattle.performing.specs.Trace.{Deed, Done, lastBytes, lastPool, allCalls, Fed, packetsOf, gapsOf, Feeds, HandsOut, Answers}
+use Rattle.performing.proofs.Traced.{world, Stands, as-world, traced}
+
+-- ---- a receive that was performed
+
+-- what the answer says, in the terms of the model
+pub record Heard (q : List ℕ) (d : Deed) (b p : List ℕ) : Type 0 where
+  pub said : d .said ≡ answerNo (receivedAs (receipt 1032 q (world b p) .said))
+  pub handle : d .left .handle ≡ rowAfter 2 (receivedAs (receipt 1032 q (world b p) .said)) (d .lent .handle)
+  pub stands : Stands b (d .after) (d .left .pool) (step 1032 (receive q) (world b p))
+
+pub heard : (q : List ℕ) (d : Deed) (b p : List ℕ) → d .calls ≡ receive q ∷ [] → Done d b → d .lent .pool ≡ p → Heard q d b p
+unfolding tells steps
+heard q d b p o h e =
+    let g : Performs (receive q ∷ []) b (d .after) (d .lent) (d .left) (d .said) = rw o at h in
+    subst (λ (x : List ℕ). Heard q d b x) e (record { said = g .said; handle = g .handle; stands = record { stack = g .stack; pool = g .pool } })
+
+-- "more" in document 01's numbers is "more"
+as-more : (r : Received) → receivedAs r ≡ gives [] → r ≡ More
+as-more More e = refl
+as-more (Whole h) e = let z : _≡_ {A = ℕ} 2 0 = ap (λ (a : Answer). length (answerValues a)) e in absurd (omega arith)
+as-more (Refused err) e = absurd (error-some err (ap answerNo e))
+
+-- the packet that hands out
+pub last-out : (m : Message) (q : List ℕ) (d : Deed) (b p : List ℕ) → Heard q d b p → Hands 1032 m q (world b p) → HandsOut m d
+unfolding tells
+last-out m q d b p h x =
+    let w = step 1032 (receive q) (world b p) in
+    let t = as-told (receipt 1032 q (world b p) .said) (x .handle) (x .told) in
+    let f : fetchOf 1032 (x .handle) (stackOf board (d .after)) (length (d .left .pool)) ≡ Fetch (x .facts) =
+    ap (λ (st : Stack). fetchOf 1032 (x .handle) st (length (d .left .pool))) (h .stands .stack .view)
+    ∙ ap (λ (l : List ℕ). fetchOf 1032 (x .handle) (w .stack) (length l)) (h .stands .pool)
+    ∙ x .fetched in
+    record {
+      handle = x .handle;
+      said = h .said ∙ ap (λ (r : Received). answerNo (receivedAs r)) t;
+      told = h .handle ∙ ap (λ (r : Received). rowAfter 2 (receivedAs r) (d .lent .handle)) t;
+      number = told-some 1032 (stackOf board b) (length p) q (x .handle) t;
+      facts = x .facts;
+      message = ap (λ (l : List ℕ). readFrom l (x .facts)) (h .stands .pool) ∙ x .message;
+      fetched = λ e o done.
+          let g : Performs (fetchMessage (x .handle) (length (d .left .pool)) ∷ []) (d .after) (e .after) (e .lent) (e .left) (e .said) = rw o at done in
+          (g .said ∙ ap (λ (y : Fetched). answerNo (fetchedAs y)) f, g .message ∙ ap (λ (y : Fetched). rowAfter 10 (fetchedAs y) (e .lent .message)) f);
+    }
+
+-- whatever the model delivers, the performed calls answer
+pub answers-from : (m : Message) (fs : List Fed) (b p : List ℕ) → Kept board b → Feeds fs b p → Delivers 1032 m (packetsOf fs) (gapsOf fs) (world b p) → Answers m fs
+unfolding Feeds Delivers packetsOf gapsOf Answers
+answers-from m [] b p k z d = absurd d
+answers-from m (f ∷ []) b p k z d = last-out m (f .packet) (f .deed) b p (heard (f .packet) (f .deed) b p (z .0) (z .1 .0) (z .1 .1 .0)) d
+answers-from m (f ∷ g ∷ fs) b p k z d =
+    let h = heard (f .packet) (f .deed) b p (z .0) (z .1 .0) (z .1 .1 .0) in
+    let t = as-more (receipt 1032 (f .packet) (world b p) .said) (d .0) in
+    let b₁ = f .deed .after in
+    let p₁ = f .deed .left .pool in
+    let w₁ = step 1032 (receive (f .packet)) (world b p) in
+    let gap = traced (f .gap) b₁ p₁ (h .stands .stack .kept) (z .1 .1 .1 .0) in
+    let b₂ = lastBytes (f .gap) b₁ in
+    let p₂ = lastPool (f .gap) p₁ in
+    let e : world b₂ p₂ ≡ steps 1032 (allCalls (f .gap)) w₁ =
+    as-world b₁ b₂ p₂ (steps 1032 (allCalls (f .gap)) (world b₁ p₁)) gap ∙ ap (steps 1032 (allCalls (f .gap))) (as-world b b₁ p₁ w₁ (h .stands)) in (
+      h .said ∙ ap (λ (r : Received). answerNo (receivedAs r)) t,
+      (
+        h .handle ∙ ap (λ (r : Received). rowAfter 2 (receivedAs r) (f .deed .lent .handle)) t,
+        answers-from m (g ∷ fs) b₂ p₂ (gap .stack .kept) (z .1 .1 .1 .1)
+            (subst (λ (w : World). Delivers 1032 m (packetsOf (g ∷ fs)) (gapsOf (g ∷ fs)) w) (sym e) (d .1)),
+      ),
+    )
+
+-- Demand 3, first half, for any bytes that are kept and any pool. If the packets that are received carry `body` as one message, with any calls performed
+-- between, and the premises of `Lawful` hold of what bytes and pool say, then each packet but the last is answered 0 and issue 0, the last 0 and a handle, and
+-- a fetch with that handle tells of exactly that message
+pub delivered-by-calls : (K : Key) (typ : MsgType) (ic : MsgIC) (mtu : ℕ) (body : List ℕ) (fs : List Fed) (b p : List ℕ) → Kept board b → Feeds fs b p
+    → Lawful 1032 K typ ic mtu body (packetsOf fs) (gapsOf fs) (world b p)
+    → Answers (record { key = K; typ = typ; ic = ic; body = body; cookie = cookieFor K (stackOf board b) }) fs
+delivered-by-calls K typ ic mtu body fs b p k z law =
+    answers-from _ fs b p k z (hands-out 1032 K typ ic mtu body (packetsOf fs) (gapsOf fs) (world b p) law)

@@ -1,0 +1,9 @@
+-- The links of one call and its step, and the theorems of `promises` for what is performed.
+-- Links: call by call. Named: the table of numbers. Traced: many calls are `steps`. Handed, Exact: demand 3's two halves and stale handles. Joined: end to end. Starts: from `new`.
+pub mod Links
+pub mod Named
+pub mod Traced
+pub mod Handed
+pub mod Joined
+pub mod Exact
+pub mod Starts
