@@ -5,12 +5,15 @@ use Prim.Native.Nat.{ℕ}
 use mathlib.Core.Path.{_≡_}
 use mathlib.Core.List.{List, [], _∷_}
 use lib.Dec.{ltb, eqb}
+use lib.ListN.{length}
 use Rattle.octets.specs.Pick.{pick}
 use Rattle.octets.specs.Bytes.{over}
 use Rattle.mctp.specs.Answer.{Answer, answerNo, answerValues, rowAfter}
 use Rattle.state.specs.Stack.{stackOf, Becomes}
 use Rattle.concluding.specs.declared.ReceiveHandle.{ReceiveHandle}
 use Rattle.receiving.specs.Receive.{Receipt, receiveOf}
+use Rattle.handling.specs.Handles.{doneAs}
+use Rattle.estack.specs.Basics.{freshStack, newSays}
 use Rattle.promises.specs.Calls.{World, Call, receive, elsewhere, update, startSend, cancelFlow, getDeferred, getDeferredByCookie, fetchMessage, finishedReceive, returnHandle, setCookie, setEid, eid, isLocalDest, freeTags, steps, performed}
 use Rattle.words.specs.Words.{word, narrow, isYes, tagFrom, cookieFrom, lawful, sendOf}
 use Rattle.board.specs.Board.{board}
@@ -128,6 +131,14 @@ tells B (setEid n ∷ cs) w l = alone (performed B (setEid n) w) l
 tells B (eid ∷ cs) w l = itself (performed B eid w) l
 tells B (isLocalDest p ∷ cs) w l = itself (performed B (isLocalDest p) w) l
 tells B (freeTags peer ∷ cs) w l = itself (performed B (freeTags peer) w) l
+
+-- ---- a new stack
+
+-- where r is 0 the bytes b′ hold a fresh stack; a refusal leaves the bytes as they were
+pub record Begins (own mtu clock : ℕ) (b b′ : List ℕ) (r : ℕ) : Type 0 where
+  pub said : r ≡ answerNo (doneAs (newSays board (length b) mtu))
+  pub made : r ≡ 0 → Becomes board b b′ (freshStack board (record { 0 = own }) mtu clock)
+  pub left : (r ≡ 0 → ⊥) → b′ ≡ b
 
 -- ---- performed
 

@@ -5,12 +5,11 @@ ghost use Prim.Native.Nat.{ℕ};
 ghost use mathlib.Core.Path.{_≡_};
 ghost use mathlib.Core.List.{List};
 ghost use lib.ListN.{length};
-ghost use Rattle.state.specs.Stack.{Kept, Becomes};
-ghost use Rattle.estack.specs.Basics.{freshStack};
+ghost use Rattle.state.specs.Stack.{Kept};
 ghost use Rattle.mctp.specs.Answer.{flagWord};
 ghost use Rattle.board.specs.Board.{board};
 ghost use Rattle.performing.specs.Cuts.{Cuts};
-ghost use Rattle.performing.specs.Perform.{Lent, lent, Performs, ownCalls, lookCalls, handleCalls, flowCalls, smallCalls, callsOf};
+ghost use Rattle.performing.specs.Perform.{Lent, lent, Begins, Performs, ownCalls, lookCalls, handleCalls, flowCalls, smallCalls, callsOf};
 use words::narrow;
 
 fn bit(b: bool) -> u8
@@ -119,9 +118,9 @@ fn small(
     flow(op, state, args)
 }
 
-// A new stack: answered 0, the bytes hold a fresh one, from which every run of calls may start.
+// A new stack, from which every run of calls may start.
 pub fn begin(state: &mut [u8], own: u8, mtu: usize, clock: u64) -> u8
-    ensures { λ r. ⌜ (r ≡ 0 → Becomes board (now (state .entry)) (now (state .exit)) (freshStack board (record { 0 = own }) mtu clock)) ⌝ }
+    ensures { λ r. ⌜ Begins own mtu clock (now (state .entry)) (now (state .exit)) r ⌝ }
 {
     board::hyphaloom_new(state, own, mtu, clock)
 }

@@ -30,6 +30,7 @@ use Rattle.receiving.specs.Receive.{Receipt, settled, land, opening, gateOf, re
 use Rattle.promises.specs.Delivery.{cookieFor}
 use Rattle.promises.specs.History.{takes}
 use Rattle.promises.proofs.Facts.{no-both}
+use Rattle.promises.proofs.Clock.{next-clock, opening-clock}
 use Rattle.promises.proofs.Gate.{Source, Found, search-finds, Enters, Right, gate-right}
 
 -- the slot as the packet finds it, once SOM has done its work
@@ -40,6 +41,7 @@ pub record Base (st : Stack) (i : ℕ) (h : Header) (p : List ℕ) (s : Reassemb
   pub goes-on : h .som ≡ false → s ≡ slotAt i st
   pub kind : h .som ≡ true → typeOf (getD p 4 0) ≡ record { typ = s .typ; ic = s .ic }
   pub cookie : s .cookie ≡ cookieFor (h .key) st
+  pub stamp : h .som ≡ true → s .stamp .clock ≡ st .head .now .clock
 
 -- the packet p was taken into slot i
 pub record Took (B : ℕ) (st : Stack) (p : List ℕ) (r : Receipt) (i : ℕ) (h : Header) : Type 0 where
@@ -51,6 +53,7 @@ pub record Took (B : ℕ) (st : Stack) (p : List ℕ) (r : Receipt) (i : ℕ) (h
   pub number : h .seq ≡ base .«next_seq»
   pub fits : base .len + length (bodyIn p) ≤ B
   pub now : EventStamp
+  pub clock : now .clock ≡ st .head .now .clock
   pub issue : ℕ
   pub slots : r .stack .slots ≡ set (st .slots) i (appended (h .eom) now issue (length (bodyIn p)) base)
   pub at : r .at ≡ B * i + base .len
@@ -69,9 +72,13 @@ pub opening-slots : (b : Bool) (st : Stack) → opening b st .slots ≡ st .slot
 opening-slots b st = pick-cases (λ (r : Stack). r .slots ≡ st .slots) (λ _. refl) (λ _. refl)
 
 module _ (B : ℕ) (st : Stack) (p : List ℕ) (h : Header) (read : headerOf p ≡ Good h) (i : ℕ) (q : i < length (st .slots))
-    (st₁ : Stack) (same : st₁ .slots ≡ st .slots) (s : Reassembler) (r : Enters st i h s) where
+    (st₁ : Stack) (same : st₁ .slots ≡ st .slots) (still : st₁ .head .now .clock ≡ st .head .now .clock) (s : Reassembler) (r : Enters st i h s) where
   now₁ : EventStamp
   now₁ = next (st₁ .head .now)
+
+  now-clock : now₁ .clock ≡ st .head .now .clock
+  unfolding now₁
+  now-clock = next-clock (st₁ .head .now) ∙ still
 
   Whole : Entry → Type 0
   Whole e = Outcome B st p (settled B i (ticked st₁) (h .key) p e)
@@ -102,6 +109,7 @@ module _ (B : ℕ) (st : Stack) (p : List ℕ) (h : Header) (read : headerOf p �
     number = n;
     fits = rw size-is at f;
     now = now₁;
+    clock = now-clock;
     issue = issue₁;
     slots =
         ap (λ (l : List Reassembler). set l i (appended (h .eom) now₁ issue₁ (length p - lead (h .som)) x)) same
@@ -127,6 +135,7 @@ module _ (B : ℕ) (st : Stack) (p : List ℕ) (h : Header) (read : headerOf p �
     goes-on = λ n. absurd (no-both (h .som) y n);
     kind = λ _. refl;
     cookie = r .cookie;
+    stamp = λ _. now-clock;
   }
 
   going-base : h .som ≡ false → Base st i h p s
@@ -137,6 +146,7 @@ module _ (B : ℕ) (st : Stack) (p : List ℕ) (h : Header) (read : headerOf p �
     goes-on = r .same;
     kind = λ y. absurd (no-both (h .som) y n);
     cookie = r .cookie;
+    stamp = λ y. absurd (no-both (h .som) y n);
   }
 
   enter-outcome : Whole (enter B now₁ issue₁ s h p)
@@ -147,16 +157,17 @@ module _ (B : ℕ) (st : Stack) (p : List ℕ) (h : Header) (read : headerOf p �
 
 module _ (B : ℕ) (st : Stack) (p : List ℕ) where
   land-outcome : (h : Header) → headerOf p ≡ Good h → (i : ℕ) → i < length (st .slots) → (st₁ : Stack) → st₁ .slots ≡ st .slots
-      → (g : Gate) → Right st i h g → Outcome B st p (land B i st₁ h p g)
+      → st₁ .head .now .clock ≡ st .head .now .clock → (g : Gate) → Right st i h g → Outcome B st p (land B i st₁ h p g)
   unfolding land Right Whole now₁ issue₁
-  land-outcome h read i q st₁ same (Shut err) r = quiet same refl refl
-  land-outcome h read i q st₁ same (Pass s) r = enter-outcome B st p h read i q st₁ same s r
+  land-outcome h read i q st₁ same still (Shut err) r = quiet same refl refl
+  land-outcome h read i q st₁ same still (Pass s) r = enter-outcome B st p h read i q st₁ same still s r
 
   lands : (r : HeaderRead) → headerOf p ≡ r → (i : ℕ) → i < length (st .slots) → Found r st i → Outcome B st p (receiveAt B i st p r)
   unfolding receiveAt
   lands Bad read i q f = quiet (opening-slots (isEmpty (slotAt i st)) st) refl refl
   lands (Good h) read i q f =
-      land-outcome h read i q (opening (isEmpty (slotAt i st)) st) (opening-slots (isEmpty (slotAt i st)) st) (gateOf i st h) (gate-right st i h f)
+      land-outcome h read i q (opening (isEmpty (slotAt i st)) st) (opening-slots (isEmpty (slotAt i st)) st)
+      (opening-clock (isEmpty (slotAt i st)) st) (gateOf i st h) (gate-right st i h f)
 
   pub receive-outcome : (room : ℕ) → Outcome B st p (receiveOf B st room p)
   unfolding receiveOf receiveBy

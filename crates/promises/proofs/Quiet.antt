@@ -59,7 +59,7 @@ done-spared : {c : Call} (st : Stack) (s : Reassembler) → isDone s ≡ true �
 done-spared st s e = record { apart = λ K t₀ ok o. no-both (isDone s) e (not-in K s (o .collects) doneState refl) }
 
 -- within the timeout, counted from the stamp, nothing expires
-in-time : (s : EventStamp) (t n : ℕ) → s .clock ≤ t → t ≤ s .clock + n → isExpired (timeoutOf s t n) ≡ false
+pub in-time : (s : EventStamp) (t n : ℕ) → s .clock ≤ t → t ≤ s .clock + n → isExpired (timeoutOf s t n) ≡ false
 unfolding timeoutOf expired pick
 in-time s t n h k = rw (le-ltb t (s .clock) h, le-ltb n (t - s .clock) (omega arith))
 

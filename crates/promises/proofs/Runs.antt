@@ -27,7 +27,7 @@ use Rattle.promises.proofs.Taking.{taken, pool-now, took-inv}
 
 -- ---- any receive, and any call
 
-takes-said : (b : Bool) (i n : ℕ) → takes (saidOf (outcomeOf b) i n) ≡ true
+pub takes-said : (b : Bool) (i n : ℕ) → takes (saidOf (outcomeOf b) i n) ≡ true
 takes-said true i n = refl
 takes-said false i n = refl
 
@@ -48,7 +48,7 @@ module _ (B : ℕ) (H : List Taken) (w : World) (v : Inv B H w) (p : List ℕ) (
       ap (λ (n : ℕ). pick lent (over n (r .bytes) (w .pool)) (w .pool)) (t .at)
       ∙ ap (λ (b : List ℕ). pick lent (over (B * i + t .base .len) b (w .pool)) (w .pool)) (t .bytes)
 
-  quiet-log : (r : Receipt) → takes (r .said) ≡ false → log r ≡ H
+  pub quiet-log : (r : Receipt) → takes (r .said) ≡ false → log r ≡ H
   unfolding noted pick
   quiet-log r n = rw n
 

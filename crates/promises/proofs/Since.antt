@@ -71,7 +71,7 @@ module _ (f : Taken → Bool) where
       let q = all-snoc l t (and-right (f x) (allOf f (l ++ (t ∷ []))) e) in
       (rw (and-left (f x) (allOf f (l ++ (t ∷ []))) e) (q .0), q .1)
 
-  snoc-all : (l : List Taken) (t : Taken) → allOf f l ≡ true → f t ≡ true → allOf f (l ++ (t ∷ [])) ≡ true
+  pub snoc-all : (l : List Taken) (t : Taken) → allOf f l ≡ true → f t ≡ true → allOf f (l ++ (t ∷ [])) ≡ true
   snoc-all [] t a e = rw e
   snoc-all (x ∷ l) t a e = rw (and-left (f x) (allOf f l) a) (snoc-all l t (and-right (f x) (allOf f l) a) e)
 

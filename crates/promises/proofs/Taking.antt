@@ -47,14 +47,14 @@ module _ (B : ℕ) (H : List Taken) (w : World) (v : Inv B H w) (p : List ℕ) (
   holds = omega (arith, slot-le B i (length (w .stack .slots)) (t .found), v .room)
 
   -- no other slot collects under the packet's key
-  alone : (k : ℕ) → collects (h .key) (slotAt k (w .stack)) ≡ true → k ≡ i
+  pub alone : (k : ℕ) → collects (h .key) (slotAt k (w .stack)) ≡ true → k ≡ i
   alone k c = go (t .source)
     where
       go : Source (w .stack .slots) i h → k ≡ i
       go (collected d) = v .one k i (h .key) c d
       go (opens e y n) = absurd (no-both (collects (h .key) (slotAt k (w .stack))) c (n k))
 
-  base-collects : collects (h .key) (t .base) ≡ true
+  pub base-collects : collects (h .key) (t .base) ≡ true
   base-collects = ap (λ (f : State). collectsIn f (sameKey (t .base .key) (h .key))) (t .is-base .state) ∙ ap (λ (k : Key). sameKey k (h .key)) (t .is-base .key) ∙ same-refl (h .key)
 
   -- the slot's own story

@@ -132,7 +132,7 @@ source-touches source tag st =
 
 -- ---- by a check of time: one that has expired, at a clock that is taken
 
-faded-blank : (t : ℕ) → fadedSlot t blankSlot ≡ blankSlot
+pub faded-blank : (t : ℕ) → fadedSlot t blankSlot ≡ blankSlot
 unfolding fadedSlot
 faded-blank t = pick-cases (λ (r : Reassembler). r ≡ blankSlot) (λ _. refl) (λ _. refl)
 
@@ -174,7 +174,7 @@ module _ (peer : Eid) (tag : TagValue) where
       P : List Reassembler → Type 0
       P r = Changed (isReply peer tag (getD l k blankSlot) ≡ true) (getD l k blankSlot) (getD r (suc k) blankSlot)
 
-  swept-count : (l : List Reassembler) → length (swept peer tag l) ≡ length l
+  pub swept-count : (l : List Reassembler) → length (swept peer tag l) ≡ length l
   unfolding swept
   swept-count [] = refl
   swept-count (s ∷ l) = pick-cases P (λ _. pick-cases P (λ _. refl) (λ _. ap suc (swept-count l))) (λ _. ap suc (swept-count l))
