@@ -1,12 +1,12 @@
 // Replays a stored list of calls on the exported calls, and compares each answer with the one that stands beside it: the original's, or where document 01
 // adds a rule, that rule's. It writes how many calls there were, and the first that differs. The list is the file `stdin`; oracle/README.md says how it is made.
-// Leans on `carrying` for a call by its number, on `octets` for the records.
+// Leans on `vectors_calls` for a call by its number, on `octets` for the records.
 ghost use Prim.Native.Nat.{_≤_};
 ghost use lib.ListN.{length};
 ghost use Rattle.state.specs.Stack.{Kept};
 ghost use Rattle.board.specs.Board.{board};
-use calling::Half;
-use calling::NONE;
+use vectors_calls::Half;
+use vectors_calls::NONE;
 
 // ---- reading
 
@@ -149,7 +149,7 @@ fn turn(
     let bytes = asked.bytes;
     let mut got = [0u64; 16];
     let mut body = [165u8; 2048];
-    let a = carrying::perform(
+    let a = vectors_calls::perform(
         asked.first,
         state,
         &w,

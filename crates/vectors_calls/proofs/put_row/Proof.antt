@@ -2,8 +2,8 @@
 use Prim.Native.Nat.{_-_}
 use lib.ListN.{length}
 use borrow.Author.Needs.{needs}
-use Rattle.carrying.proofs.put_row.Statement.{statement}
-use Rattle.carrying.proofs.put_row.Tie as tie
+use Rattle.vectors_calls.proofs.put_row.Statement.{statement}
+use Rattle.vectors_calls.proofs.put_row.Tie as tie
 
 abbrev Inv-loop : tie.InvT-loop
 Inv-loop got₀ row i₀ got i = Unit
