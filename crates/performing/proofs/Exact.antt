@@ -4,7 +4,10 @@ use mathlib.Core.Path.{_≡_, refl, sym, ap, subst, _∙_}
 use mathlib.Core.Bool.{true, false}
 use mathlib.Core.List.{List, [], _∷_}
 use lib.ListN.{length}
+use borrow.Author.Tests.{le-ltb}
 use Rattle.octets.specs.Pick.{pick}
+use Rattle.mctp.specs.declared.Cookie.{Cookie}
+use Rattle.mctp.specs.declared.Error.the-variants.{BadArgument}
 use Rattle.mctp.specs.Answer.{gives, answerNo, rowAfter}
 use Rattle.mctp.proofs.Answers.{error-some}
 use Rattle.slot.specs.Slot.{isEmpty}
@@ -14,8 +17,10 @@ use Rattle.concluding.specs.declared.ReceiveHandle.{ReceiveHandle}
 use Rattle.concluding.specs.declared.Received.{Received}
 use Rattle.concluding.specs.declared.Received.the-variants.{More, Message as Whole, Refused}
 use Rattle.concluding.specs.Conclude.{handleWords, receivedAs}
-use Rattle.handling.specs.Handles.{isGood, handled}
-use Rattle.promises.specs.Calls.{World, receive, finishedReceive, step, steps, receipt, performed}
+use Rattle.handling.specs.declared.Fetched.{Fetched}
+use Rattle.handling.specs.declared.Fetched.the-variants.{Refused as Unfetched}
+use Rattle.handling.specs.Handles.{isGood, handled, fetchedAs, fetchOf}
+use Rattle.promises.specs.Calls.{World, receive, fetchMessage, finishedReceive, returnHandle, setCookie, step, steps, receipt, performed}
 use Rattle.promises.specs.Delivery.{Hands, messageAt, allOf}
 use Rattle.promises.specs.History.{Exactly, history, logged}
 use Rattle.promises.specs.Stale.{counting}
@@ -73,10 +78,35 @@ module _ (b p : List ℕ) (k : Kept board b) (ds : List Deed) (t : Trace ds b p)
       let v = stood .stack .view in
       ap (isGood h) v ∙ stale-stays 1032 h (allCalls ds) (world b p) l e (rw v at g)
 
--- and a finish with such a handle is answered 3, BadArgument, and leaves the stack as it was
-pub stale-answered : (h : ReceiveHandle) (d : Deed) (b : List ℕ) → d .calls ≡ finishedReceive h ∷ [] → isGood h (stackOf board b) ≡ false → Done d b
-    → (d .said ≡ 3) × Becomes board b (d .after) (stackOf board b)
-unfolding tells steps step handled pick
-stale-answered h d b o e done =
-    let g : Performs (finishedReceive h ∷ []) b (d .after) (d .lent) (d .left) (d .said) = rw o at done in
-    (rw e at (g .said), rw e at (g .stack))
+-- ---- and it is answered so
+
+-- what a call under a handle that is no good is answered: 3, BadArgument, with the stack as it was
+abbrev Rejected : Deed → List ℕ → Type 0
+Rejected d b = (d .said ≡ 3) × Becomes board b (d .after) (stackOf board b)
+
+module _ (h : ReceiveHandle) (d : Deed) (b : List ℕ) (e : isGood h (stackOf board b) ≡ false) (done : Done d b) where
+  pub finish-stale : d .calls ≡ finishedReceive h ∷ [] → Rejected d b
+  unfolding tells steps step handled pick
+  finish-stale o =
+      let g : Performs (finishedReceive h ∷ []) b (d .after) (d .lent) (d .left) (d .said) = rw o at done in
+      (rw e at (g .said), rw e at (g .stack))
+
+  pub return-stale : d .calls ≡ returnHandle h ∷ [] → Rejected d b
+  unfolding tells steps step handled pick
+  return-stale o =
+      let g : Performs (returnHandle h ∷ []) b (d .after) (d .lent) (d .left) (d .said) = rw o at done in
+      (rw e at (g .said), rw e at (g .stack))
+
+  pub cookie-stale : (cookie : Cookie) → d .calls ≡ setCookie h cookie ∷ [] → Rejected d b
+  unfolding tells steps step handled pick
+  cookie-stale cookie o =
+      let g : Performs (setCookie h cookie ∷ []) b (d .after) (d .lent) (d .left) (d .said) = rw o at done in
+      (rw e at (g .said), rw e at (g .stack))
+
+  -- a fetch leaves its row as it was, too; the pool is long enough
+  pub fetch-stale : (n : ℕ) → 4128 ≤ n → d .calls ≡ fetchMessage h n ∷ [] → Rejected d b × (d .left .message ≡ d .lent .message)
+  unfolding tells steps step fetchOf pick
+  fetch-stale n long o =
+      let g : Performs (fetchMessage h n ∷ []) b (d .after) (d .lent) (d .left) (d .said) = rw o at done in
+      let f : fetchOf 1032 h (stackOf board b) n ≡ Unfetched BadArgument = rw (slots-length board b, le-ltb n 4128 long, e) in
+      ((g .said ∙ ap (λ (y : Fetched). answerNo (fetchedAs y)) f, g .stack), g .message ∙ ap (λ (y : Fetched). rowAfter 10 (fetchedAs y) (d .lent .message)) f)

@@ -10,6 +10,7 @@ use Rattle.mctp.specs.declared.MsgIC.{MsgIC}
 use Rattle.mctp.specs.Answer.{Answer, gives, answerNo, answerValues, rowAfter}
 use Rattle.mctp.proofs.Answers.{error-some}
 use Rattle.state.specs.Stack.{Stack, stackOf, Kept}
+use Rattle.concluding.specs.declared.ReceiveHandle.{ReceiveHandle}
 use Rattle.concluding.specs.declared.Received.{Received}
 use Rattle.concluding.specs.declared.Received.the-variants.{More, Message as Whole, Refused}
 use Rattle.concluding.specs.Conclude.{receivedAs}
@@ -21,9 +22,11 @@ use Rattle.promises.specs.Delivery.{Message, Hands, Delivers, readFrom, cookieF
 use Rattle.promises.proofs.Fetch.{as-told}
 use Rattle.promises.proofs.HandOut.{hands-out}
 use Rattle.promises.proofs.Issues.{told-some}
+use Rattle.staying.specs.Staying.{Fetches}
+use Rattle.staying.proofs.Stays.{handed-stays}
 use Rattle.board.specs.Board.{board}
 use Rattle.performing.specs.Perform.{Performs, tells}
-use Rattle.performing.specs.Trace.{Deed, Done, lastBytes, lastPool, allCalls, Fed, packetsOf, gapsOf, Feeds, HandsOut, Answers}
+use Rattle.performing.specs.Trace.{Deed, Done, Trace, lastBytes, lastPool, allCalls, Fed, packetsOf, gapsOf, Feeds, Gives, HandsOut, Answers}
 use Rattle.performing.proofs.Traced.{world, Stands, as-world, traced}
 
 -- ---- a receive that was performed
@@ -46,26 +49,46 @@ as-more More e = refl
 as-more (Whole h) e = let z : _≡_ {A = ℕ} 2 0 = ap (λ (a : Answer). length (answerValues a)) e in absurd (omega arith)
 as-more (Refused err) e = absurd (error-some err (ap answerNo e))
 
+-- after a receive and any calls performed, bytes and pool hold what the model's steps make
+pub then-world : (q : List ℕ) (d : Deed) (b p : List ℕ) (ds : List Deed) → Heard q d b p → Trace ds (d .after) (d .left .pool)
+    → Kept board (lastBytes ds (d .after))
+    × (world (lastBytes ds (d .after)) (lastPool ds (d .left .pool)) ≡ steps 1032 (allCalls ds) (step 1032 (receive q) (world b p)))
+then-world q d b p ds h t =
+    let b₁ = d .after in
+    let p₁ = d .left .pool in
+    let w₁ = step 1032 (receive q) (world b p) in
+    let gap = traced ds b₁ p₁ (h .stands .stack .kept) t in (
+      gap .stack .kept,
+      as-world b₁ (lastBytes ds b₁) (lastPool ds p₁) (steps 1032 (allCalls ds) (world b₁ p₁)) gap
+          ∙ ap (steps 1032 (allCalls ds)) (as-world b b₁ p₁ w₁ (h .stands)),
+    )
+
+-- a fetch that is performed where the model gives m
+gives-from : (m : Message) (h : ReceiveHandle) (b p : List ℕ) (e : Deed) → Fetches 1032 h m (world b p) → e .calls ≡ fetchMessage h (length p) ∷ [] → Done e b
+    → Gives m p e
+unfolding tells
+gives-from m h b p e f o done =
+    let g : Performs (fetchMessage h (length p) ∷ []) b (e .after) (e .lent) (e .left) (e .said) = rw o at done in
+    record {
+      facts = f .facts;
+      said = g .said ∙ ap (λ (y : Fetched). answerNo (fetchedAs y)) (f .fetched);
+      told = g .message ∙ ap (λ (y : Fetched). rowAfter 10 (fetchedAs y) (e .lent .message)) (f .fetched);
+      message = f .message;
+    }
+
 -- the packet that hands out
 pub last-out : (m : Message) (q : List ℕ) (d : Deed) (b p : List ℕ) → Heard q d b p → Hands 1032 m q (world b p) → HandsOut m d
-unfolding tells
 last-out m q d b p h x =
-    let w = step 1032 (receive q) (world b p) in
     let t = as-told (receipt 1032 q (world b p) .said) (x .handle) (x .told) in
-    let f : fetchOf 1032 (x .handle) (stackOf board (d .after)) (length (d .left .pool)) ≡ Fetch (x .facts) =
-    ap (λ (st : Stack). fetchOf 1032 (x .handle) st (length (d .left .pool))) (h .stands .stack .view)
-    ∙ ap (λ (l : List ℕ). fetchOf 1032 (x .handle) (w .stack) (length l)) (h .stands .pool)
-    ∙ x .fetched in
     record {
       handle = x .handle;
       said = h .said ∙ ap (λ (r : Received). answerNo (receivedAs r)) t;
       told = h .handle ∙ ap (λ (r : Received). rowAfter 2 (receivedAs r) (d .lent .handle)) t;
       number = told-some 1032 (stackOf board b) (length p) q (x .handle) t;
-      facts = x .facts;
-      message = ap (λ (l : List ℕ). readFrom l (x .facts)) (h .stands .pool) ∙ x .message;
-      fetched = λ e o done.
-          let g : Performs (fetchMessage (x .handle) (length (d .left .pool)) ∷ []) (d .after) (e .after) (e .lent) (e .left) (e .said) = rw o at done in
-          (g .said ∙ ap (λ (y : Fetched). answerNo (fetchedAs y)) f, g .message ∙ ap (λ (y : Fetched). rowAfter 10 (fetchedAs y) (e .lent .message)) f);
+      fetched = λ ds trace ok e o done.
+          let w = then-world q d b p ds h trace in
+          gives-from m (x .handle) (lastBytes ds (d .after)) (lastPool ds (d .left .pool)) e
+          (subst (Fetches 1032 (x .handle) m) (sym (w .1)) (handed-stays 1032 m q (allCalls ds) (world b p) x ok)) o done;
     }
 
 -- whatever the model delivers, the performed calls answer
@@ -76,19 +99,14 @@ answers-from m (f ∷ []) b p k z d = last-out m (f .packet) (f .deed) b p (hear
 answers-from m (f ∷ g ∷ fs) b p k z d =
     let h = heard (f .packet) (f .deed) b p (z .0) (z .1 .0) (z .1 .1 .0) in
     let t = as-more (receipt 1032 (f .packet) (world b p) .said) (d .0) in
-    let b₁ = f .deed .after in
-    let p₁ = f .deed .left .pool in
-    let w₁ = step 1032 (receive (f .packet)) (world b p) in
-    let gap = traced (f .gap) b₁ p₁ (h .stands .stack .kept) (z .1 .1 .1 .0) in
-    let b₂ = lastBytes (f .gap) b₁ in
-    let p₂ = lastPool (f .gap) p₁ in
-    let e : world b₂ p₂ ≡ steps 1032 (allCalls (f .gap)) w₁ =
-    as-world b₁ b₂ p₂ (steps 1032 (allCalls (f .gap)) (world b₁ p₁)) gap ∙ ap (steps 1032 (allCalls (f .gap))) (as-world b b₁ p₁ w₁ (h .stands)) in (
+    let b₂ = lastBytes (f .gap) (f .deed .after) in
+    let p₂ = lastPool (f .gap) (f .deed .left .pool) in
+    let e = then-world (f .packet) (f .deed) b p (f .gap) h (z .1 .1 .1 .0) in (
       h .said ∙ ap (λ (r : Received). answerNo (receivedAs r)) t,
       (
         h .handle ∙ ap (λ (r : Received). rowAfter 2 (receivedAs r) (f .deed .lent .handle)) t,
-        answers-from m (g ∷ fs) b₂ p₂ (gap .stack .kept) (z .1 .1 .1 .1)
-            (subst (λ (w : World). Delivers 1032 m (packetsOf (g ∷ fs)) (gapsOf (g ∷ fs)) w) (sym e) (d .1)),
+        answers-from m (g ∷ fs) b₂ p₂ (e .0) (z .1 .1 .1 .1)
+            (subst (λ (w : World). Delivers 1032 m (packetsOf (g ∷ fs)) (gapsOf (g ∷ fs)) w) (sym (e .1)) (d .1)),
       ),
     )
 

@@ -1,8 +1,9 @@
 -- Calls performed one after another on the same state and pool: each with what it was lent, what it left and what it answered.
 -- And a message that is fed so, packet by packet, with other calls between: what is then answered.
--- Leans on `Perform` for one call, on `promises` for what a message is.
+-- Leans on `Perform` for one call, on `promises` for what a message is, on `staying` for calls that do not name a handle.
 use Prim.Native.Nat.{ℕ}
 use mathlib.Core.Path.{_≡_}
+use mathlib.Core.Bool.{true}
 use mathlib.Core.List.{List, [], _∷_, _++_}
 use lib.ListN.{length}
 use Rattle.concluding.specs.declared.ReceiveHandle.{ReceiveHandle}
@@ -10,7 +11,8 @@ use Rattle.concluding.specs.Conclude.{handleWords}
 use Rattle.handling.specs.declared.Message.{Message as Facts}
 use Rattle.handling.specs.Handles.{messageWords}
 use Rattle.promises.specs.Calls.{Call, receive, fetchMessage}
-use Rattle.promises.specs.Delivery.{Message, readFrom}
+use Rattle.promises.specs.Delivery.{Message, readFrom, allOf}
+use Rattle.staying.specs.Staying.{spares}
 use Rattle.performing.specs.Perform.{Lent, Performs}
 
 -- a call as it was made (none: what was no call); what was lent, and how it was left; the state's bytes afterwards; what was answered
@@ -70,17 +72,23 @@ Feeds (f ∷ fs) b p =
     × (Trace (f .gap) (f .deed .after) (f .deed .left .pool)
     × Feeds fs (lastBytes (f .gap) (f .deed .after)) (lastPool (f .gap) (f .deed .left .pool)))))
 
--- a packet is answered 0, with a handle in the row whose number is not 0; and a fetch, performed next with that handle and lent that pool, is answered 0 and
--- leaves in its row the facts of m, whose body then lies in the pool at the place and of the length that the row says
+-- a fetch that was performed is answered 0 and leaves in its row the facts of m, whose body lies in the pool at the place and of the length that the row says
+pub record Gives (m : Message) (pool : List ℕ) (d : Deed) : Type 0 where
+  pub facts : Facts
+  pub said : d .said ≡ 0
+  pub told : d .left .message ≡ messageWords facts
+  pub message : readFrom pool facts ≡ m
+
+-- a packet is answered 0, with a handle in the row whose number is not 0; and a fetch with that handle, lent that pool, gives m: at once, and later after any
+-- calls performed but a finish, a return or a set cookie under that very handle
 pub record HandsOut (m : Message) (d : Deed) : Type 0 where
   pub handle : ReceiveHandle
   pub said : d .said ≡ 0
   pub told : d .left .handle ≡ handleWords handle
   pub number : handle .issue ≡ 0 → ⊥
-  pub facts : Facts
-  pub message : readFrom (d .left .pool) facts ≡ m
-  pub fetched : (e : Deed) → e .calls ≡ fetchMessage handle (length (d .left .pool)) ∷ [] → Done e (d .after)
-      → (e .said ≡ 0) × (e .left .message ≡ messageWords facts)
+  pub fetched : (ds : List Deed) → Trace ds (d .after) (d .left .pool) → allOf (spares handle) (allCalls ds) ≡ true
+      → (e : Deed) → e .calls ≡ fetchMessage handle (length (lastPool ds (d .left .pool))) ∷ [] → Done e (lastBytes ds (d .after))
+      → Gives m (lastPool ds (d .left .pool)) e
 
 -- every packet before the last is answered 0 and issue 0, the last hands out m
 unfoldable pub Answers : Message → List Fed → Type 0
