@@ -7,10 +7,17 @@
  *
  * THE PREMISE. Every call answers any numbers, packets, handles and lengths, in any order. It asks only this of the caller:
  *
- *   - `state` is a buffer that hyphaloom_new filled and that only these calls have changed since. It comes with the length
- *     that it had then.
+ *   - `state` holds at least 2,248 bytes, which hyphaloom_new has filled and only these calls have changed since. Of all
+ *     calls only hyphaloom_new and hyphaloom_is_kept look at `state_len`; the others trust it.
  *   - Every pointer leads to as many bytes as its length says; a pointer to a struct or to a number leads to one. The buffers
  *     of one call do not overlap.
+ *
+ * A state holds no addresses. Between calls it may be moved or copied to another buffer, or kept over a warm start.
+ *
+ * Where the premise is broken nothing is promised: a call may answer wrongly, or write outside the buffers that it is lent. Two
+ * bytes of a state overwritten are enough to make hyphaloom_receive write outside the pool. hyphaloom_is_kept tells whether
+ * bytes are a state. A board that has kept its state over a warm start, or that suspects its memory, asks it before any other
+ * call.
  *
  * Byte buffers need no alignment. A pointer whose length is 0 is not followed.
  *
@@ -139,6 +146,16 @@ struct hyphaloom_next {
  * BAD_ARGUMENT: MTU under 5. NO_SPACE: the buffer is too short.
  */
 uint8_t hyphaloom_new(uint8_t *state, size_t state_len, uint8_t own, size_t mtu, uint64_t clock);
+
+/*
+ * Whether the bytes are a state, so that every call keeps its promises on it. Any bytes may be asked about; a buffer under
+ * 2,248 bytes is no state. Changes nothing.
+ * It is no checksum: where overwritten bytes make another state, the answer is yes. Nor does it tell a warm start from a cold
+ * one: bytes that are all 0 are a state, with own EID 0 and MTU 0, on which no send succeeds.
+ * A state kept over a warm start needs its pool, where the bodies lie. Handles that were out are still out, and
+ * hyphaloom_update still refuses a clock below the last one.
+ */
+bool hyphaloom_is_kept(const uint8_t *state, size_t state_len);
 
 /*
  * Sets the own EID.

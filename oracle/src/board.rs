@@ -14,6 +14,7 @@ pub mod raw {
     mod exported {
         extern "C" {
             pub fn hyphaloom_new(state: *mut u8, len: usize, own: u8, mtu: usize, clock: u64) -> u8;
+            pub fn hyphaloom_is_kept(state: *const u8, len: usize) -> bool;
             pub fn hyphaloom_set_eid(state: *mut u8, len: usize, eid: u8) -> u8;
             pub fn hyphaloom_eid(state: *const u8, len: usize) -> u8;
             pub fn hyphaloom_is_local_dest(state: *const u8, len: usize, packet: *const u8, packet_len: usize) -> bool;
@@ -83,6 +84,10 @@ pub mod raw {
 
     pub fn new(state: &mut [u8], own: u8, mtu: usize, clock: u64) -> u8 {
         unsafe { hyphaloom_new(state.as_mut_ptr(), state.len(), own, mtu, clock) }
+    }
+
+    pub fn is_kept(state: &[u8]) -> bool {
+        unsafe { hyphaloom_is_kept(state.as_ptr(), state.len()) }
     }
 
     pub fn set_eid(state: &mut [u8], eid: u8) -> u8 {
@@ -265,14 +270,20 @@ fn slot_view(b: &[u8], pool: &[u8]) -> Option<SlotView> {
 }
 
 impl Board {
-    /// The state, lent to a call; afterwards the guards are looked at.
+    /// The state, lent to a call that may write it; afterwards it is looked at.
     fn lend<T>(&mut self, call: impl FnOnce(&mut [u8]) -> T) -> T {
         let answer = call(&mut self.0.state);
         self.look();
         answer
     }
 
+    /// The guards stand, and the bytes between them are a state.
     fn look(&self) {
+        self.look_around();
+        assert!(raw::is_kept(self.state()), "the bytes are no state");
+    }
+
+    fn look_around(&self) {
         assert_eq!(self.0.before, [GUARD; 64], "bytes before the state changed");
         assert_eq!(self.0.after, [GUARD; 64], "bytes behind the state changed");
     }
@@ -296,8 +307,10 @@ impl Port for Board {
     fn new(own: u8, mtu: usize, clock: u64) -> Result<Self, Refusal> {
         let guarded = Guarded { before: [GUARD; 64], state: [GUARD; raw::STATE], after: [GUARD; 64] };
         let mut board = Board(Box::new(guarded));
-        let said = told(board.lend(|state| raw::new(state, own, mtu, clock)));
+        let said = told(raw::new(&mut board.0.state, own, mtu, clock));
+        board.look_around();
         said.inspect_err(|_| assert!(board.state().iter().all(|b| *b == GUARD), "a refused new changed the state"))?;
+        board.look();
         Ok(board)
     }
 
@@ -368,7 +381,8 @@ impl Port for Board {
 
     fn fetch_message(&mut self, handle: Handle, pool: &[u8]) -> Result<Message, Refusal> {
         let mut row = Row::new();
-        let number = self.lend(|state| raw::fetch_message(state, pool, handle.index, handle.issue, &mut row.words));
+        let number = raw::fetch_message(self.state(), pool, handle.index, handle.issue, &mut row.words);
+        self.look_around();
         let row = row.after(number)?.words;
         assert_eq!(row[8], (BODY * handle.index) as u64, "the body's place");
         Ok(message_of(&row, pool))
@@ -418,5 +432,6 @@ impl Port for Board {
     fn preset(&mut self, counter: u32, issues: u64) {
         self.0.state[COUNTER_AT..][..4].copy_from_slice(&counter.to_le_bytes());
         self.0.state[ISSUE_AT..][..8].copy_from_slice(&issues.to_le_bytes());
+        self.look();
     }
 }

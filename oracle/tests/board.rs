@@ -58,4 +58,6 @@ fn buffers_of_other_lengths() {
     let long = fresh(raw::STATE + 9);
     assert_eq!(long[..raw::STATE], fresh(raw::STATE)[..]);
     assert_eq!(long[raw::STATE..], [0xee; 9]);
+    assert!(raw::is_kept(&long) && raw::is_kept(&long[..raw::STATE]));
+    assert!(!raw::is_kept(&long[..raw::STATE - 1]) && !raw::is_kept(&[]) && !raw::is_kept(&[0xee; raw::STATE]));
 }

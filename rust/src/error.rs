@@ -50,3 +50,15 @@ impl fmt::Display for Error {
 }
 
 impl core::error::Error for Error {}
+
+/// Bytes that are no stack's. [`Stack::from_bytes`](crate::Stack::from_bytes) gives it.
+#[derive(Debug, Clone, Copy, PartialEq, Eq, Hash)]
+pub struct NotKept;
+
+impl fmt::Display for NotKept {
+    fn fmt(&self, f: &mut fmt::Formatter<'_>) -> fmt::Result {
+        f.write_str("not the bytes of a stack")
+    }
+}
+
+impl core::error::Error for NotKept {}

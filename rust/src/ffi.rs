@@ -1,8 +1,10 @@
 //! The exported calls, with all the `unsafe` of this crate.
 //!
-//! The calls ask two things. Their state is one that `hyphaloom_new` filled and only they changed since: [`State`] is made by
-//! [`State::new`] alone and lends its bytes to the calls alone. And the buffers of one call are whole and do not overlap: they
-//! come from references, of which those written are `&mut`, and no reference to a state's bytes leaves this module.
+//! The calls ask two things. Their state is one that `hyphaloom_new` filled and only they changed since, or one that
+//! `hyphaloom_is_kept` knows as such: [`State`] is made by [`State::new`] and [`State::from_bytes`] alone, and only the calls
+//! write it. And the buffers of one call are whole, and what is written overlaps nothing else: they come from references, of
+//! which those written are `&mut`. A state's bytes leave this module as a shared reference alone, which no call that writes the
+//! state can meet.
 
 use crate::config::STATE_BYTES;
 use crate::{AppCookie, Error, Result};
@@ -20,6 +22,7 @@ pub(crate) type NextRow = [u64; 2];
 
 extern "C" {
     fn hyphaloom_new(state: *mut u8, state_len: usize, own: u8, mtu: usize, clock: u64) -> u8;
+    fn hyphaloom_is_kept(state: *const u8, state_len: usize) -> bool;
     fn hyphaloom_set_eid(state: *mut u8, state_len: usize, eid: u8) -> u8;
     fn hyphaloom_eid(state: *const u8, state_len: usize) -> u8;
     fn hyphaloom_is_local_dest(state: *const u8, state_len: usize, packet: *const u8, packet_len: usize) -> bool;
@@ -106,6 +109,21 @@ impl State {
         Ok(state)
     }
 
+    /// The state that these bytes are, if they are one.
+    pub(crate) fn from_bytes(bytes: [u8; STATE_BYTES]) -> Option<State> {
+        let state = State(bytes);
+        state.is_kept().then_some(state)
+    }
+
+    pub(crate) fn bytes(&self) -> &[u8; STATE_BYTES] {
+        &self.0
+    }
+
+    pub(crate) fn is_kept(&self) -> bool {
+        // SAFETY: asks nothing of the state; its buffer is whole.
+        unsafe { hyphaloom_is_kept(self.0.as_ptr(), STATE_BYTES) }
+    }
+
     pub(crate) fn set_eid(&mut self, eid: u8) -> Result<()> {
         // SAFETY: a state; no other buffer.
         answer(unsafe { hyphaloom_set_eid(self.0.as_mut_ptr(), STATE_BYTES, eid) })
@@ -117,7 +135,7 @@ impl State {
     }
 
     pub(crate) fn is_local_dest(&self, packet: &[u8]) -> bool {
-        // SAFETY: a state; `packet` is whole and none of the state's bytes.
+        // SAFETY: a state; `packet` is whole; neither is written.
         unsafe { hyphaloom_is_local_dest(self.0.as_ptr(), STATE_BYTES, packet.as_ptr(), packet.len()) }
     }
 
@@ -162,7 +180,7 @@ impl State {
     pub(crate) fn fetch_message(&self, pool: &[u8], index: usize, issue: u64) -> Result<MessageRow> {
         let mut message = [0; 10];
         let state = self.0.as_ptr();
-        // SAFETY: a state; `pool` is whole and apart from it and from the row.
+        // SAFETY: a state; `pool` is whole; the row, which alone is written, is apart from both.
         answer(unsafe { hyphaloom_fetch_message(state, STATE_BYTES, pool.as_ptr(), pool.len(), index, issue, &mut message) })?;
         Ok(message)
     }
@@ -213,6 +231,25 @@ mod tests {
         assert_eq!(new_in(STATE_BYTES - 1), (Err(Error::NoSpace), false));
         assert_eq!(new_in(STATE_BYTES), (Ok(()), true));
         assert_eq!(new_in(STATE_BYTES + 8), (Ok(()), true));
+    }
+
+    /// Whether so many bytes are a state, the front of a new one with other bytes behind it.
+    fn kept_in(len: usize) -> bool {
+        let mut bytes = [0xEE; STATE_BYTES + 8];
+        // SAFETY: asks nothing of the state; the buffer is whole.
+        answer(unsafe { hyphaloom_new(bytes.as_mut_ptr(), STATE_BYTES, 8, 255, 0) }).expect("a state");
+        let bytes = &bytes[..len];
+        // SAFETY: asks nothing of the state; the buffer is whole.
+        unsafe { hyphaloom_is_kept(bytes.as_ptr(), bytes.len()) }
+    }
+
+    #[test]
+    fn a_short_buffer_is_no_state() {
+        for len in 0..STATE_BYTES {
+            assert!(!kept_in(len), "{len} bytes");
+        }
+        assert!(kept_in(STATE_BYTES));
+        assert!(kept_in(STATE_BYTES + 8), "what lies past the state is not looked at");
     }
 
     #[test]

@@ -4,8 +4,8 @@
 //! tells what has timed out. It drives no wire and has no heap: packets go through lent buffers, and bodies of messages lie in
 //! a pool that the caller lends. Every call answers every input; [`Error`] has all its refusals.
 //!
-//! The proofs hold for a state that the calls themselves have made. [`Stack`] keeps its state to itself, so safe Rust cannot
-//! break that premise.
+//! The proofs hold for a state that the calls themselves have made. [`Stack`] lets nothing else write its state, and
+//! [`Stack::from_bytes`] takes only bytes that are such a state, so safe Rust cannot break that premise.
 //!
 //! # A request and its reply
 //!
@@ -53,6 +53,7 @@
 //! - `new` and the calls under a handle give a `Result` where the original panics.
 //! - `fetch_message_with` is left out: fetch, then finish.
 //! - [`AppCookie`] is a `u64`; [`Stack::free_tags`] and [`Error::PoolShort`] are added.
+//! - [`Stack::as_bytes`], [`Stack::from_bytes`] and [`Stack::is_kept`] are added.
 
 #![no_std]
 #![deny(missing_docs)]
@@ -66,7 +67,7 @@ pub mod fragment;
 mod stack;
 mod types;
 
-pub use error::{Error, Result};
+pub use error::{Error, NotKept, Result};
 pub use fragment::{Fragmenter, SendOutput};
 pub use stack::{MctpMessage, ReceiveHandle, Stack};
 pub use types::{AppCookie, Eid, MsgIC, MsgType, Tag, TagValue};

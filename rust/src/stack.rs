@@ -1,9 +1,10 @@
 //! The stack, the messages that it hands out and their handles.
 
+use crate::config::STATE_BYTES;
 use crate::ffi::{HandleRow, MessageRow, SendRow, State};
 #[cfg(doc)]
 use crate::{config::POOL_BYTES, Error, DEFERRED_TIMEOUT};
-use crate::{AppCookie, Eid, Fragmenter, MsgIC, MsgType, Result, Tag, TagValue};
+use crate::{AppCookie, Eid, Fragmenter, MsgIC, MsgType, NotKept, Result, Tag, TagValue};
 use core::fmt;
 
 /// An MCTP stack without IO.
@@ -24,6 +25,43 @@ impl Stack {
     /// [`Error::BadArgument`]: MTU under 5.
     pub fn new(own_eid: Eid, mtu: usize, now_millis: u64) -> Result<Stack> {
         Ok(Stack { state: State::new(own_eid.0, mtu, now_millis)? })
+    }
+
+    /// The stack's bytes, to keep over a warm start. [`from_bytes`](Self::from_bytes) makes a stack of them again.
+    ///
+    /// Keep the pool with them: bodies lie there. Keep the numbers of the handles that are out, or their slots stay taken, and
+    /// let the clock go on from where it was, or [`update`](Self::update) refuses it.
+    pub fn as_bytes(&self) -> &[u8; STATE_BYTES] {
+        self.state.bytes()
+    }
+
+    /// The stack whose bytes these are.
+    ///
+    /// [`NotKept`]: the bytes are no state, and the calls would promise nothing on them. This is no checksum: where changed bytes
+    /// make another state, it is taken. Nor does it tell a warm start from a cold one: bytes that are all 0 are a stack's, with
+    /// own EID 0 and MTU 0, on which no send succeeds.
+    ///
+    /// ```
+    /// # use hyphaloom::*;
+    /// # fn main() -> Result<()> {
+    /// let mut stack = Stack::new(Eid(8), 255, 0)?;
+    /// stack.start_send(Eid(9), MsgType(1), None, true, MsgIC(false), None, None)?;
+    /// let mut kept = *stack.as_bytes();
+    /// let again = Stack::from_bytes(kept).expect("a stack's bytes");
+    /// assert_eq!((again.eid(), again.free_tags(Eid(9))), (Eid(8), 7));
+    /// kept[1] = 8;
+    /// assert_eq!(Stack::from_bytes(kept).err(), Some(NotKept));
+    /// # Ok(())
+    /// # }
+    /// ```
+    pub fn from_bytes(bytes: [u8; STATE_BYTES]) -> core::result::Result<Stack, NotKept> {
+        State::from_bytes(bytes).map(|state| Stack { state }).ok_or(NotKept)
+    }
+
+    /// Whether the stack's bytes are still a state. It is always so, unless something beside this crate has written them: a
+    /// board that suspects its memory asks before any other call.
+    pub fn is_kept(&self) -> bool {
+        self.state.is_kept()
     }
 
     /// Takes the clock and gives `(millis, expired)`: after how long to call again, at most 100, and whether something has

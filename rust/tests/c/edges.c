@@ -1,4 +1,7 @@
-/* Empty buffers as NULL, buffers at odd addresses, what a refusal leaves in the caller's structs. Prints the line that fails. */
+/*
+ * Empty buffers as NULL, buffers at odd addresses, what a refusal leaves in the caller's structs, a state that is moved or
+ * overwritten. Prints the line that fails.
+ */
 #include "hyphaloom.h"
 
 #include <stdio.h>
@@ -77,7 +80,48 @@ static int messages_at_odd_addresses(void)
     return 0;
 }
 
+/* A message half in and a request's flow move with the state's bytes to another buffer; the old one is overwritten. */
+static int a_moved_state_works_on(void)
+{
+    static const uint8_t opening[] = {0x01, 0x08, 0x09, 0x89, 0x01, 0x2A}, closing[] = {0x01, 0x08, 0x09, 0x59, 0x2B};
+    static const uint8_t reply[] = {0x01, 0x08, 0x0A, 0xC1, 0x01};
+    static uint8_t other[STATE_LEN + 3];
+    struct hyphaloom_send send = {10, 1, HYPHALOOM_TAG_FRESH, 0, 1, 0, 0, 0, 1, 77};
+    struct hyphaloom_fragmenter fragmenter;
+    struct hyphaloom_handle handle;
+    struct hyphaloom_message m;
+    WANT(hyphaloom_new(state, STATE_LEN, 8, 255, 0) == HYPHALOOM_OK);
+    WANT(hyphaloom_is_kept(state, STATE_LEN));
+    WANT(hyphaloom_start_send(state, STATE_LEN, &send, &fragmenter) == HYPHALOOM_OK && fragmenter.tag == 1);
+    WANT(hyphaloom_receive(state, STATE_LEN, pool, POOL_LEN, opening, sizeof opening, &handle) == HYPHALOOM_OK);
+    memset(other, 0xEE, sizeof other);
+    memcpy(other, state, STATE_LEN);
+    memset(state, 0xEE, STATE_LEN);
+    WANT(hyphaloom_is_kept(other, sizeof other) && !hyphaloom_is_kept(state, STATE_LEN));
+    WANT(hyphaloom_receive(other, sizeof other, pool, POOL_LEN, closing, sizeof closing, &handle) == HYPHALOOM_OK);
+    WANT(hyphaloom_fetch_message(other, sizeof other, pool, POOL_LEN, handle.index, handle.issue, &m) == HYPHALOOM_OK);
+    WANT(m.source == 9 && m.len == 2 && pool[m.at] == 0x2A && pool[m.at + 1] == 0x2B);
+    WANT(hyphaloom_receive(other, sizeof other, pool, POOL_LEN, reply, sizeof reply, &handle) == HYPHALOOM_OK);
+    WANT(hyphaloom_fetch_message(other, sizeof other, pool, POOL_LEN, handle.index, handle.issue, &m) == HYPHALOOM_OK);
+    WANT(m.source == 10 && m.has_cookie == 1 && m.cookie == 77);
+    WANT(hyphaloom_is_kept(other, sizeof other));
+    return 0;
+}
+
+static int what_is_no_state(void)
+{
+    WANT(!hyphaloom_is_kept(NULL, 0));
+    WANT(hyphaloom_new(state, STATE_LEN, 8, 255, 0) == HYPHALOOM_OK);
+    WANT(hyphaloom_is_kept(state, STATE_LEN) && !hyphaloom_is_kept(state, STATE_LEN - 1));
+    state[1] = 8; /* the tag counter */
+    WANT(!hyphaloom_is_kept(state, STATE_LEN));
+    WANT(hyphaloom_new(state, STATE_LEN, 8, 4, 0) == HYPHALOOM_BAD_ARGUMENT && !hyphaloom_is_kept(state, STATE_LEN));
+    WANT(hyphaloom_new(state, STATE_LEN, 8, 255, 0) == HYPHALOOM_OK && hyphaloom_is_kept(state, STATE_LEN));
+    return 0;
+}
+
 int main(void)
 {
-    return empty_buffers() || refusals_leave_structs() || messages_at_odd_addresses();
+    return empty_buffers() || refusals_leave_structs() || messages_at_odd_addresses() || a_moved_state_works_on() ||
+           what_is_no_state();
 }
