@@ -1,4 +1,5 @@
 -- Demand 3: `hands-out` of HandOut and `told` of Told are its halves. Instances meets their premises, ShutOut excludes the wrong stacks.
+-- Refusals: document 01's refusal rules.
 pub mod Facts
 pub mod Slots
 pub mod Pool
@@ -26,3 +27,8 @@ pub mod EndToEnd
 pub mod Figures
 pub mod Stale
 pub mod Issues
+pub mod Refused
+pub mod RefusedReceive
+pub mod RefusedSend
+pub mod RefusedCancel
+pub mod Refusals

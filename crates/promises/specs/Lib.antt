@@ -1,8 +1,10 @@
 -- What the theorems speak of, beside the definitions that the contracts cite.
--- Calls: a world and a call in it. Delivery, History: demand 3's two halves. Figures: document 01's table.
+-- Calls: a world and a call in it. Delivery, History: demand 3's two halves. Figures: document 01's table. Refusals: when each is given, and what it leaves.
 -- Leans on the definitions of `estack`, `receiving` and `fragment`.
 pub mod Calls
 pub mod Delivery
 pub mod History
 pub mod Figures
 pub mod Stale
+pub mod Refusals
+pub mod RefusalTable

@@ -16,17 +16,14 @@ use Rattle.octets.specs.Bytes.{part, over}
 use Rattle.octets.proofs.Bools.{bool-cases}
 use Rattle.octets.proofs.Part.{over-nil, drop-over, part-part}
 use Rattle.mctp.specs.declared.Header.{Header}
-use Rattle.mctp.specs.declared.Error.{Error}
 use Rattle.slot.specs.declared.Reassembler.{Reassembler}
 use Rattle.slot.specs.Slot.{blankSlot, isDone, handleTaken}
 use Rattle.reassemble.specs.Enter.{appended}
 use Rattle.fragment.specs.Cutting.{bodyIn}
 use Rattle.state.specs.Stack.{Stack, slotAt}
-use Rattle.concluding.specs.declared.Received.the-variants.{Refused}
 use Rattle.receiving.specs.Receive.{Receipt, receiveOf}
 use Rattle.promises.specs.Calls.{Call, receive, World, step, steps, receipt}
 use Rattle.promises.specs.History.{takes}
-use Rattle.promises.proofs.Facts.{no-both}
 use Rattle.promises.proofs.Slots.{parts}
 use Rattle.promises.proofs.Pool.{slot-le, bodyAt, pool-length, body-apart}
 use Rattle.promises.proofs.Outcome.{Base, Took, Outcome, quiet, dropped, took, receive-outcome}
@@ -34,21 +31,6 @@ use Rattle.promises.proofs.Quiet.{Kind, here, there, silent, kind}
 use Rattle.promises.proofs.Runs.{takes-said}
 use Rattle.staying.specs.Staying.{tailOf, lengthBefore, Appends, PartAfter, same, appends}
 use Rattle.staying.proofs.Fates.{lands-open, fates}
-
--- ---- a refusal
-
--- a receive that refuses writes no byte
-outcome-writes : (B : ℕ) (st : Stack) (p : List ℕ) (r : Receipt) → Outcome B st p r → takes (r .said) ≡ false → r .bytes ≡ []
-outcome-writes B st p r (quiet e b f) n = b
-outcome-writes B st p r (dropped i h read src e b f) n = b
-outcome-writes B st p r (took i h t) n = absurd (no-both (takes (r .said)) (ap takes (t .said) ∙ takes-said (h .eom) i (t .issue)) n)
-
-pub refused-bytes : (B : ℕ) (st : Stack) (room : ℕ) (p : List ℕ) (err : Error) → receiveOf B st room p .said ≡ Refused err → receiveOf B st room p .bytes ≡ []
-refused-bytes B st room p err e = outcome-writes B st p (receiveOf B st room p) (receive-outcome B st p room) (ap takes e)
-
-pub refused-pool : (B : ℕ) (p : List ℕ) (w : World) (err : Error) → receipt B p w .said ≡ Refused err → step B (receive p) w .pool ≡ w .pool
-unfolding step
-refused-pool B p w err e = rw (refused-bytes B (w .stack) (length (w .pool)) p err e, over-nil (receipt B p w .at) (w .pool))
 
 -- ---- one receive
 
