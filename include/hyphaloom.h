@@ -148,10 +148,12 @@ struct hyphaloom_next {
 uint8_t hyphaloom_new(uint8_t *state, size_t state_len, uint8_t own, size_t mtu, uint64_t clock);
 
 /*
- * Whether the bytes are a state, so that every call keeps its promises on it. Any bytes may be asked about; a buffer under
- * 2,248 bytes is no state. Changes nothing.
- * It is no checksum: where overwritten bytes make another state, the answer is yes. Nor does it tell a warm start from a cold
- * one: bytes that are all 0 are a state, with own EID 0 and MTU 0, on which no send succeeds.
+ * Whether the bytes are a state, so that every call answers on it as its comment says and writes nothing but what it is lent.
+ * Any bytes may be asked about; a buffer under 2,248 bytes is no state. Changes nothing.
+ * It is no checksum: where overwritten bytes make another state, the answer is yes. What only a stack that has come from
+ * hyphaloom_new call by call is sure to have is not looked at: one flow for a peer and tag, no handle out with number 0 or with
+ * a number that has yet to go out, no stamp later than the clock. Nor does it tell a warm start from a cold one: bytes that are
+ * all 0 are a state, with own EID 0 and MTU 0, on which no send succeeds.
  * A state kept over a warm start needs its pool, where the bodies lie. Handles that were out are still out, and
  * hyphaloom_update still refuses a clock below the last one.
  */

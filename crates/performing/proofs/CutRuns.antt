@@ -45,7 +45,7 @@ use Rattle.answers.specs.Answers.{lengthAfter, steppedAfter}
 use Rattle.board.specs.Board.{board}
 use Rattle.performing.specs.Perform.{Performs, tells}
 use Rattle.performing.specs.Trace.{Deed, Done}
-use Rattle.performing.specs.Cuts.{Cut, Cuts, CutRun, packetIn, cutPackets, AllSent, Sends, stepIn}
+use Rattle.performing.specs.Cuts.{Cut, Cuts, CutRun, packetIn, cutPackets, AllSent, stepIn}
 
 -- ---- a send that starts
 
@@ -239,21 +239,12 @@ sentKey w b d = keyUnder (stackOf board b .head .«own_eid») (sendOf w .dest) (
 module _ (w b : List ℕ) (d : Deed) (k : Kept board b) (o : d .calls ≡ startSend (sendOf w) ∷ []) (done : Done d b) (z : d .said ≡ 0) where
   -- A send that was started, answered 0, and steps of the row that it left, made until one is answered 0 and length 0: the packets in the buffers carry the
   -- payload, under the tag and within the MTU that stand in that row
-  pub carried-by-calls : (payload : List ℕ) (cs : List Cut) → CutRun cs (d .left .fragmenter) payload → AllSent cs
+  pub cuts-by-calls : (payload : List ℕ) (cs : List Cut) → CutRun cs (d .left .fragmenter) payload → AllSent cs
       → Carries (sentKey w b d) (sendOf w .typ) (sendOf w .ic) (fragmenterOf (d .left .fragmenter) .mtu) payload (cutPackets cs)
   unfolding tells
-  carried-by-calls payload cs run all =
+  cuts-by-calls payload cs run all =
       let g : Performs (startSend (sendOf w) ∷ []) b (d .after) (d .lent) (d .left) (d .said) = rw o at done in
       let st = stackOf board b in
       subst (λ (r : List ℕ). CutRun cs r payload → CarryAs (sendOf w) st payload cs (fragmenterOf r)) (sym (g .fragmenter))
       (λ run. start-carries (sendOf w) st payload cs (startSendOf (sendOf w) st .said) (d .lent .fragmenter) (head-ok board b k .own) (omega arith) refl (sym (g .said) ∙ z) run all)
       run
-
-  -- so they carry it as one message of that send
-  pub cuts-by-calls : (payload : List ℕ) (cs : List Cut) → CutRun cs (d .left .fragmenter) payload → AllSent cs
-      → Sends (stackOf board b) (sendOf w) payload (cutPackets cs)
-  cuts-by-calls payload cs run all = record {
-    tag = fragmenterOf (d .left .fragmenter) .tag;
-    mtu = fragmenterOf (d .left .fragmenter) .mtu;
-    carries = carried-by-calls payload cs run all;
-  }

@@ -10,6 +10,7 @@ use Rattle.mctp.specs.declared.MsgIC.{MsgIC}
 use Rattle.mctp.specs.Answer.{Answer, gives, answerNo, answerValues, rowAfter}
 use Rattle.mctp.proofs.Answers.{error-some}
 use Rattle.state.specs.Stack.{Stack, stackOf, Kept}
+use Rattle.state.proofs.StackLaws.{slot-ok}
 use Rattle.concluding.specs.declared.ReceiveHandle.{ReceiveHandle}
 use Rattle.concluding.specs.declared.Received.{Received}
 use Rattle.concluding.specs.declared.Received.the-variants.{More, Message as Whole, Refused}
@@ -23,7 +24,7 @@ use Rattle.promises.proofs.Fetch.{as-told}
 use Rattle.promises.proofs.HandOut.{hands-out}
 use Rattle.promises.proofs.Issues.{told-some}
 use Rattle.staying.specs.Staying.{Fetches}
-use Rattle.staying.proofs.Stays.{handed-stays}
+use Rattle.staying.proofs.Stays.{handed-stays, fetch-inside}
 use Rattle.board.specs.Board.{board}
 use Rattle.performing.specs.Perform.{Performs, tells}
 use Rattle.performing.specs.Trace.{Deed, Done, Trace, lastBytes, lastPool, allCalls, Fed, packetsOf, gapsOf, Feeds, Gives, HandsOut, Answers}
@@ -64,15 +65,16 @@ then-world q d b p ds h t =
     )
 
 -- a fetch that is performed where the model gives m
-gives-from : (m : Message) (h : ReceiveHandle) (b p : List ℕ) (e : Deed) → Fetches 1032 h m (world b p) → e .calls ≡ fetchMessage h (length p) ∷ [] → Done e b
+gives-from : (m : Message) (h : ReceiveHandle) (b p : List ℕ) (e : Deed) → Kept board b → Fetches 1032 h m (world b p) → e .calls ≡ fetchMessage h (length p) ∷ [] → Done e b
     → Gives m p e
 unfolding tells
-gives-from m h b p e f o done =
+gives-from m h b p e k f o done =
     let g : Performs (fetchMessage h (length p) ∷ []) b (e .after) (e .lent) (e .left) (e .said) = rw o at done in
     record {
       facts = f .facts;
       said = g .said ∙ ap (λ (y : Fetched). answerNo (fetchedAs y)) (f .fetched);
       told = g .message ∙ ap (λ (y : Fetched). rowAfter 10 (fetchedAs y) (e .lent .message)) (f .fetched);
+      inside = fetch-inside 1032 h (stackOf board b) (length p) (f .facts) (f .fetched) (slot-ok board b k (h .index) .len);
       message = f .message;
     }
 
@@ -87,7 +89,7 @@ last-out m q d b p h x =
       number = told-some 1032 (stackOf board b) (length p) q (x .handle) t;
       fetched = λ ds trace ok e o done.
           let w = then-world q d b p ds h trace in
-          gives-from m (x .handle) (lastBytes ds (d .after)) (lastPool ds (d .left .pool)) e
+          gives-from m (x .handle) (lastBytes ds (d .after)) (lastPool ds (d .left .pool)) e (w .0)
           (subst (Fetches 1032 (x .handle) m) (sym (w .1)) (handed-stays 1032 m q (allCalls ds) (world b p) x ok)) o done;
     }
 

@@ -136,8 +136,9 @@ module _ (b b′ : List ℕ) (r : ℕ) where
       go true e = record { stack = e .1 .0; pool = refl; said = e .0; other = refl; handle = refl; message = refl; fragmenter = e .1 .1 }
       go false e = record { stack = e .1 .0; pool = refl; said = e .0; other = refl; handle = refl; message = refl; fragmenter = e .1 .1 }
 
-pub fetch-link : (b : List ℕ) → Kept board b → (r : ℕ) (h : ReceiveHandle) (p o n m m′ f : List ℕ)
-    → (r ≡ answerNo (fetchedAs (fetchOf 1032 h (stackOf board b) (length p)))) × (m′ ≡ rowAfter 10 (fetchedAs (fetchOf 1032 h (stackOf board b) (length p))) m)
-    → Performs (fetchMessage h (length p) ∷ []) b b (lent p o n m f) (lent p o n m′ f) r
+-- lent a buffer of that length, the watched pool or any other
+pub fetch-link : (b : List ℕ) → Kept board b → (r : ℕ) (h : ReceiveHandle) (room : ℕ) (p o n m m′ f : List ℕ)
+    → (r ≡ answerNo (fetchedAs (fetchOf 1032 h (stackOf board b) room))) × (m′ ≡ rowAfter 10 (fetchedAs (fetchOf 1032 h (stackOf board b) room)) m)
+    → Performs (fetchMessage h room ∷ []) b b (lent p o n m f) (lent p o n m′ f) r
 unfolding steps step tells
-fetch-link b k r h p o n m m′ f e = record { stack = stays board b k; pool = refl; said = e .0; other = refl; handle = refl; message = e .1; fragmenter = refl }
+fetch-link b k r h room p o n m m′ f e = record { stack = stays board b k; pool = refl; said = e .0; other = refl; handle = refl; message = e .1; fragmenter = refl }

@@ -8,14 +8,9 @@ use lib.Dec.{eqb}
 use lib.ListN.{length, take}
 use Rattle.octets.specs.Pick.{pick}
 use Rattle.octets.specs.Bytes.{over}
-use Rattle.mctp.specs.declared.Tag.{Tag}
-use Rattle.mctp.specs.Terms.{keyUnder}
 use Rattle.mctp.specs.Answer.{answerNo}
 use Rattle.fragment.specs.Step.{Step, stepOf}
 use Rattle.fragment.specs.Answers.{outputAs}
-use Rattle.fragment.specs.Cutting.{Carries}
-use Rattle.state.specs.Stack.{Stack}
-use Rattle.sending.specs.declared.Send.{Send}
 use Rattle.words.specs.Words.{fragmenterOf}
 use Rattle.answers.specs.Answers.{lengthAfter, steppedAfter}
 
@@ -57,9 +52,3 @@ unfoldable pub AllSent : List Cut → Type 0
 AllSent [] = ⊥
 AllSent (c ∷ []) = (c .said ≡ 0) × (c .len ≡ 0)
 AllSent (c ∷ d ∷ cs) = AllSent (d ∷ cs)
-
--- the packets carry the payload as one message of the send q, from the own EID, under some tag and within some MTU
-pub record Sends (st : Stack) (q : Send) (payload : List ℕ) (packets : List (List ℕ)) : Type 0 where
-  pub tag : Tag
-  pub mtu : ℕ
-  pub carries : Carries (keyUnder (st .head .«own_eid») (q .dest) tag) (q .typ) (q .ic) mtu payload packets

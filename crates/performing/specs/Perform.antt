@@ -29,7 +29,7 @@ pub record Lent : Type 0 where
 abbrev pub lent : List ℕ → List ℕ → List ℕ → List ℕ → List ℕ → Lent
 lent p o h m f = record { pool = p; other = o; handle = h; message = m; fragmenter = f }
 
--- ---- which call the numbers name. None where they name no call
+-- ---- which call the numbers name. None where they name no call. A number that stands for a byte is taken by its low eight bits (`narrow`)
 
 abbrev pub handleIn : List ℕ → ReceiveHandle
 handleIn w = record { index = word 0 w; issue = word 1 w }
@@ -69,13 +69,15 @@ smallCalls op w bytes cookies =
 unfoldable pub sendCalls : List ℕ → List Call
 sendCalls w = pick (lawful w) (startSend (sendOf w) ∷ []) []
 
--- 9 a packet lent the pool, 19 a packet lent the other buffer, 12 fetch from the pool. `pool` and `other` are the buffers' lengths
+-- 9 a packet lent the pool, 19 a packet lent the other buffer, 12 fetch from the pool, 20 fetch from the other buffer. `pool` and `other` are the buffers'
+-- lengths
 unfoldable pub callsOf : ℕ → List ℕ → List ℕ → List ℕ → ℕ → ℕ → List Call
 callsOf op w bytes cookies pool other =
     pick (eqb op 9) (receive bytes ∷ [])
     (pick (eqb op 19) (elsewhere other bytes ∷ [])
     (pick (eqb op 12) (fetchMessage (handleIn w) pool ∷ [])
-    (pick (eqb op 5) (sendCalls w) (smallCalls op w bytes cookies))))
+    (pick (eqb op 20) (fetchMessage (handleIn w) other ∷ [])
+    (pick (eqb op 5) (sendCalls w) (smallCalls op w bytes cookies)))))
 
 -- ---- what is told
 

@@ -1,7 +1,7 @@
 -- Calls performed one after another on the same state and pool: each with what it was lent, what it left and what it answered.
 -- And a message that is fed so, packet by packet, with other calls between: what is then answered.
 -- Leans on `Perform` for one call, on `promises` for what a message is, on `staying` for calls that do not name a handle.
-use Prim.Native.Nat.{ℕ}
+use Prim.Native.Nat.{ℕ, _+_, _≤_}
 use mathlib.Core.Path.{_≡_}
 use mathlib.Core.Bool.{true}
 use mathlib.Core.List.{List, [], _∷_, _++_}
@@ -58,9 +58,11 @@ unfoldable pub packetsOf : List Fed → List (List ℕ)
 packetsOf [] = []
 packetsOf (f ∷ fs) = f .packet ∷ packetsOf fs
 
+-- the calls between the packets: what comes after the last is not between
 unfoldable pub gapsOf : List Fed → List (List Call)
 gapsOf [] = []
-gapsOf (f ∷ fs) = allCalls (f .gap) ∷ gapsOf fs
+gapsOf (f ∷ []) = []
+gapsOf (f ∷ g ∷ fs) = allCalls (f .gap) ∷ gapsOf (g ∷ fs)
 
 -- every packet was received, lent the pool; each call was performed on what the one before it left
 unfoldable pub Feeds : List Fed → List ℕ → List ℕ → Type 0
@@ -72,11 +74,13 @@ Feeds (f ∷ fs) b p =
     × (Trace (f .gap) (f .deed .after) (f .deed .left .pool)
     × Feeds fs (lastBytes (f .gap) (f .deed .after)) (lastPool (f .gap) (f .deed .left .pool)))))
 
--- a fetch that was performed is answered 0 and leaves in its row the facts of m, whose body lies in the pool at the place and of the length that the row says
+-- a fetch that was performed is answered 0 and leaves in its row the facts of m, whose body lies in the pool at the place and of the length that the row says:
+-- within the pool
 pub record Gives (m : Message) (pool : List ℕ) (d : Deed) : Type 0 where
   pub facts : Facts
   pub said : d .said ≡ 0
   pub told : d .left .message ≡ messageWords facts
+  pub inside : facts .at + facts .len ≤ length pool
   pub message : readFrom pool facts ≡ m
 
 -- a packet is answered 0, with a handle in the row whose number is not 0; and a fetch with that handle, lent that pool, gives m: at once, and later after any

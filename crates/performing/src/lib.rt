@@ -157,6 +157,9 @@ pub fn perform(
     if op == 12 {
         return board::hyphaloom_fetch_message(state, pool, args[0] as usize, args[1], message);
     }
+    if op == 20 {
+        return board::hyphaloom_fetch_message(state, other, args[0] as usize, args[1], message);
+    }
     if op == 5 {
         return board::hyphaloom_start_send(state, args, fragmenter);
     }

@@ -1,4 +1,5 @@
--- No handle has number 0: none that goes out has, and none is ever good. So issue 0 in a row says "more is to come", or "there is none", and nothing else does.
+-- No handle has number 0: none that goes out has, and none is ever good. So where an answer is 0, issue 0 in its row says "more is to come" or "there is none",
+-- and nothing else does.
 use Prim.Native.Nat.{ℕ}
 use native.Mathlib.Omega.{arith}
 use mathlib.Core.Path.{_≡_, refl, sym, ap, _∙_}

@@ -133,7 +133,7 @@ unfolding isLocal find pick steps step startSendOf sendAs tagFor ownedTag setFlo
 query-stands = refl
 
 -- and a cancel: no flow stands for it
-pub query-cleared : standing (record { 0 = 9 }) (record { 0 = 1 }) (cancelOf (record { 0 = 9 }) (record { 0 = 1 }) (asked .stack) .stack .flows) ≡ false
+pub query-cleared : standing (record { 0 = 9 }) (record { 0 = 1 }) (step 1032 (cancelFlow (record { 0 = 9 }) (record { 0 = 1 })) asked .stack .flows) ≡ false
 unfolding isLocal find pick steps step startSendOf sendAs tagFor ownedTag setFlow freshFlow withTag insertFlow newFlow freeTagOf bitsOf isFlow next cancelOf swept blocked isReply
 query-cleared =
     cancel-clears 1032 (record { slots = 4; body = 1032 }) (record { 0 = 8 }) 64 0 (replicate 4128 0) (startSend query ∷ []) (record { 0 = 9 }) (record { 0 = 1 }) refl
@@ -155,7 +155,7 @@ pub query-answered : standing (record { 0 = 9 }) (record { 0 = 1 }) (step 1032 (
 unfolding isLocal find pick steps step startSendOf sendAs tagFor ownedTag setFlow freshFlow withTag insertFlow newFlow freeTagOf bitsOf isFlow next
     receiveOf receiveBy receiveAt headerOf slotFor gate gateEmpty gateReply opening land enter append nextIssue sameKey sameBool over
 query-answered =
-    reply-clears 1032 (record { slots = 4; body = 1032 }) (record { 0 = 8 }) 64 0 (replicate 4128 0) (startSend query ∷ []) 4128 reply first answered refl refl refl
+    reply-clears 1032 (record { slots = 4; body = 1032 }) (record { 0 = 8 }) 64 0 (replicate 4128 0) (startSend query ∷ []) reply first answered refl refl refl
 
 -- ---- a message in packets
 

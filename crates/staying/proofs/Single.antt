@@ -19,6 +19,8 @@ use Rattle.mctp.specs.declared.HeaderRead.{HeaderRead}
 use Rattle.mctp.specs.declared.HeaderRead.the-variants.{Good, Bad}
 use Rattle.mctp.specs.Terms.{normalEid, tagOf, isOwner}
 use Rattle.mctp.specs.Header.{headerOf}
+use Rattle.mctp.specs.Answer.{gives, answerNo}
+use Rattle.mctp.proofs.Answers.{error-some}
 use Rattle.stamp.specs.Stamp.{next}
 use Rattle.flows.specs.declared.Flow.{Flow}
 use Rattle.flows.specs.declared.Wish.{Wish}
@@ -42,12 +44,12 @@ use Rattle.flow_walks.specs.FlowWalks.{tableOf}
 use Rattle.concluding.specs.declared.ReceiveHandle.{ReceiveHandle}
 use Rattle.concluding.specs.declared.Received.{Received}
 use Rattle.concluding.specs.declared.Received.the-variants.{More, Message as Told, Refused}
-use Rattle.concluding.specs.Conclude.{nextIssue, saidOf, flowsAfter}
+use Rattle.concluding.specs.Conclude.{nextIssue, saidOf, flowsAfter, handleWords}
 use Rattle.receiving.specs.Receive.{Receipt, settled, land, opening, gateOf, receiveAt, receiveBy, receiveOf}
 use Rattle.handling.specs.declared.Done as answers
 use Rattle.handling.specs.declared.Done.the-variants.{Done as Well, Refused as Unwell}
 use Rattle.handling.specs.Handles as handles
-use Rattle.handling.specs.Handles.{Lookup, handled, takeOf, bySourceOf}
+use Rattle.handling.specs.Handles.{Lookup, doneAs, handled, takeOf, bySourceOf}
 use Rattle.sending.specs.declared.Send.{Send}
 use Rattle.sending.specs.declared.Carried.{Carried}
 use Rattle.sending.specs.declared.Carried.the-variants.{Under, Refused as Untagged}
@@ -56,8 +58,9 @@ use Rattle.sending.specs.declared.SendTag.the-variants.{Fresh, Given}
 use Rattle.sending.specs.Sends.{Sent, ownedTag, givenTag, tagFor, sendAs, sendTagged, startSendOf}
 use Rattle.updating.specs.Update.{Update, checked, updateOf}
 use Rattle.estack.specs.Basics.{freshStack, eidSet, cancelOf}
-use Rattle.promises.specs.Calls.{Call, receive, elsewhere, update, startSend, cancelFlow, getDeferred, getDeferredByCookie, fetchMessage, finishedReceive, returnHandle, setCookie, setEid, eid, isLocalDest, freeTags, World, step, steps}
+use Rattle.promises.specs.Calls.{Call, receive, elsewhere, update, startSend, cancelFlow, getDeferred, getDeferredByCookie, fetchMessage, finishedReceive, returnHandle, setCookie, setEid, eid, isLocalDest, freeTags, World, step, steps, receipt, performed}
 use Rattle.promises.proofs.Facts.{no-true, is-false}
+use Rattle.promises.proofs.Fetch.{as-told}
 use Rattle.staying.specs.Staying.{flowsOf}
 
 -- ---- a receive: the flows stay, or a message is handed out and its reply's flow goes
@@ -265,16 +268,23 @@ pub reply-gone : (B : ℕ) (st : Stack) (room : ℕ) (p : List ℕ) (h : Receive
     → receiveOf B st room p .said ≡ Told h → standing (g .key .source) (g .key .tag) (receiveOf B st room p .stack .flows) ≡ false
 reply-gone B st room p h g u read o e = flowing-gone (st .flows) p (receiveOf B st room p) u g read o (ap hands e) (receive-flowing B p st room)
 
--- both after any calls from a new stack: nothing is left to ask
-pub cancel-clears : (B : ℕ) (z : Sizes) (own : Eid) (mtu clock : ℕ) (pool : List ℕ) (calls : List Call) (peer : Eid) (tag : TagValue)
-    → let st = steps B calls (record { stack = freshStack z own mtu clock; pool = pool }) .stack in
-    cancelOf peer tag st .said ≡ Well → standing peer tag (cancelOf peer tag st .stack .flows) ≡ false
-cancel-clears B z own mtu clock pool calls peer tag e =
-    cancelled-gone peer tag (steps B calls (record { stack = freshStack z own mtu clock; pool = pool }) .stack) (fresh-unique B z own mtu clock pool calls) e
+-- both after any calls from a new stack, in what is answered: nothing is left to ask
+module _ (B : ℕ) (z : Sizes) (own : Eid) (mtu clock : ℕ) (pool : List ℕ) (calls : List Call) where
+  abbrev reached : World
+  reached = steps B calls (record { stack = freshStack z own mtu clock; pool = pool })
 
-pub reply-clears : (B : ℕ) (z : Sizes) (own : Eid) (mtu clock : ℕ) (pool : List ℕ) (calls : List Call) (room : ℕ) (p : List ℕ) (h : ReceiveHandle) (g : Header)
-    → let st = steps B calls (record { stack = freshStack z own mtu clock; pool = pool }) .stack in
-    headerOf p ≡ Good g → g .key .owner ≡ false → receiveOf B st room p .said ≡ Told h
-    → standing (g .key .source) (g .key .tag) (receiveOf B st room p .stack .flows) ≡ false
-reply-clears B z own mtu clock pool calls room p h g read o e =
-    reply-gone B (steps B calls (record { stack = freshStack z own mtu clock; pool = pool }) .stack) room p h g (fresh-unique B z own mtu clock pool calls) read o e
+  as-done : (d : answers.Done) → doneAs d ≡ gives [] → d ≡ Well
+  as-done Well e = refl
+  as-done (Unwell err) e = absurd (error-some err (ap answerNo e))
+
+  pub cancel-clears : (peer : Eid) (tag : TagValue) → performed B (cancelFlow peer tag) reached ≡ gives []
+      → standing peer tag (step B (cancelFlow peer tag) reached .stack .flows) ≡ false
+  unfolding step
+  cancel-clears peer tag e =
+      cancelled-gone peer tag (reached .stack) (fresh-unique B z own mtu clock pool calls) (as-done (cancelOf peer tag (reached .stack) .said) e)
+
+  pub reply-clears : (p : List ℕ) (h : ReceiveHandle) (g : Header) → headerOf p ≡ Good g → g .key .owner ≡ false → performed B (receive p) reached ≡ gives (handleWords h)
+      → standing (g .key .source) (g .key .tag) (step B (receive p) reached .stack .flows) ≡ false
+  unfolding step
+  reply-clears p h g read o e =
+      reply-gone B (reached .stack) (length (reached .pool)) p h g (fresh-unique B z own mtu clock pool calls) read o (as-told (receipt B p reached .said) h e)

@@ -1,6 +1,6 @@
 -- A message whose handle is out stays as it is, and its handle good, whatever calls come but a finish, a return or a set cookie under that very handle.
 -- No clock ends it: its slot has no time. And no body grows past its slot's part.
-use Prim.Native.Nat.{ℕ, zero, suc, _*_, _≤_}
+use Prim.Native.Nat.{ℕ, zero, suc, _+_, _*_, _≤_}
 use native.Mathlib.Omega.{arith}
 use mathlib.Core.Path.{_≡_, refl, sym, ap, subst, _∙_}
 use mathlib.Core.Bool.{Bool, true, false}
@@ -36,7 +36,8 @@ use Rattle.promises.specs.Delivery.{Message, readFrom, messageAt, Hands, allOf}
 use Rattle.promises.specs.History.{takes}
 use Rattle.promises.proofs.Facts.{no-both, no-true, and-left, and-right}
 use Rattle.promises.proofs.Slots.{passes-in, parts}
-use Rattle.promises.proofs.Pool.{bodyAt}
+use Rattle.promises.proofs.Pool.{bodyAt, slot-le}
+use Rattle.promises.proofs.Issues.{issue-some}
 use Rattle.promises.proofs.Outcome.{Outcome, quiet, dropped, took, receive-outcome}
 use Rattle.promises.proofs.Fetch.{as-told}
 use Rattle.promises.proofs.Told.{index-is}
@@ -290,3 +291,18 @@ cookie-stays B h cookie calls w g l ok =
     let short = fate-short B c (w .stack) (h .index) (slotAt (h .index) (step B c w .stack)) (fates B c w .each (h .index)) l in
     let rest = message-stays B h calls (step B c w) (one .0) short ok in
     (rest .0, rest .1 ∙ one .1)
+
+-- the body that a fetch tells of lies in the pool that it was lent
+pub fetch-inside : (B : ℕ) (h : ReceiveHandle) (st : Stack) (room : ℕ) (f : Facts) → fetchOf B h st room ≡ Give f → slotAt (h .index) st .len ≤ B
+    → f .at + f .len ≤ room
+fetch-inside B h st room f e l =
+    let d = fetch-of B h st room f e in
+    let i = passes-in (handleIs (h .issue)) blankSlot refl (st .slots) (h .index) (sym (good-is h st) ∙ d .good) in
+    subst (λ (x : Facts). x .at + x .len ≤ room) (sym (d .facts)) (omega (arith, slot-le B (h .index) (length (st .slots)) i, d .long))
+
+-- from a new stack: number 0 is never good
+pub fresh-some : (B i : ℕ) (z : Sizes) (own : Eid) (mtu clock : ℕ) (pool : List ℕ) (calls : List Call)
+    → isGood (record { index = i; issue = 0 }) (steps B calls (record { stack = freshStack z own mtu clock; pool = pool }) .stack) ≡ false
+fresh-some B i z own mtu clock pool calls =
+    issue-some B i calls (record { stack = freshStack z own mtu clock; pool = pool })
+    (good-is (record { index = i; issue = 0 }) (freshStack z own mtu clock) ∙ ap (handleIs 0) (fresh-slot z own mtu clock i))

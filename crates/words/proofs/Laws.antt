@@ -12,10 +12,11 @@ use Rattle.mctp.specs.declared.Cookie.{Cookie}
 use Rattle.mctp.specs.declared.Cookie.the-variants.{Absent, Given}
 use Rattle.mctp.specs.Terms.{tagOf, isOwner, tagUnder, cookieNo, cookieValue}
 use Rattle.fragment.specs.declared.Fragmenter.{Fragmenter}
-use Rattle.mctp.specs.Answer.{flagWord}
+use Rattle.mctp.specs.Answer.{gives, flagWord}
 use Rattle.fragment.specs.Step.{advancedBy}
-use Rattle.fragment.specs.Answers.{wordsOf}
-use Rattle.words.specs.Words.{isYes, narrow, tagFrom, cookieFrom, advancedRow, fragmenterOf}
+use Rattle.fragment.specs.declared.SendOutput.the-variants.{Complete}
+use Rattle.fragment.specs.Answers.{wordsOf, outputAs}
+use Rattle.words.specs.Words.{word, isYes, narrow, tagFrom, cookieFrom, advancedRow, fragmenterOf}
 
 flag-back : (b : Bool) → isYes (flagWord b) ≡ b
 flag-back true = refl
@@ -46,6 +47,11 @@ words-back f s d t g q = λ i. record {
   cookie = cookie-back (f .cookie) i;
   «payload_used» = f .«payload_used»;
 }
+
+-- the tag and the cookie that are answered with all sent stand in that row, at words 3 and 4, 10 and 11
+pub complete-words : (f : Fragmenter)
+    → outputAs (Complete (f .tag) (f .cookie)) ≡ gives (0 ∷ word 3 (wordsOf f) ∷ word 4 (wordsOf f) ∷ word 10 (wordsOf f) ∷ word 11 (wordsOf f) ∷ [])
+complete-words f = refl
 
 -- and the row after a packet is read as the next fragmenter, whatever its words were
 pub row-moves : (a b c d e f g h i j k l m n : ℕ) (eom : Bool)
