@@ -21,7 +21,7 @@ fn calls() -> String {
 }
 
 fn words() -> String {
-    read("crates/words/src/lib.rt")
+    read("crates/rows/src/lib.rt")
 }
 
 /// What stands between two marks, the first after `from`.
@@ -160,7 +160,7 @@ fn constants(header: &str) -> BTreeMap<String, u64> {
 
 // ---- what the structs and constants must be
 
-/// The field that an entry of a row in crate `words` is: `wide(f.src.0)` is `src`.
+/// The field that an entry of a row in crate `rows` is: `wide(f.src.0)` is `src`.
 fn field_of(entry: &str) -> String {
     let known = ["wide", "flag_word", "0", "as", "u64", "f", "m", "h", "key", ""];
     let word = |c: char| !(c.is_alphanumeric() || c == '_');
@@ -172,7 +172,7 @@ fn field_of(entry: &str) -> String {
     }
 }
 
-/// The row that a function of crate `words` ends with.
+/// The row that a function of crate `rows` ends with.
 fn written_row(text: &str, function: &str) -> Vec<String> {
     let body = between(text, &format!("pub fn {function}("), "{\n", "\n}\n");
     let list = &body[body.rfind('[').expect("a row") + 1..body.rfind(']').expect("its end")];
@@ -203,19 +203,19 @@ fn read_row(text: &str) -> Vec<String> {
 fn defined_length(name: &str) -> usize {
     let (path, definition) = match name {
         "send" => {
-            let specs = read("crates/words/specs/Words.antt");
+            let specs = read("crates/rows/specs/Words.antt");
             return between(&specs, "-- A send: ", ": ", ".").split(", ").count();
         }
         "fragmenter" => ("crates/fragment/specs/Answers.antt", "\nwordsOf f ="),
-        "message" => ("crates/handling/specs/Handles.antt", "\nmessageWords m ="),
-        "handle" => ("crates/concluding/specs/Conclude.antt", "\nhandleWords h ="),
+        "message" => ("crates/handles/specs/Handles.antt", "\nmessageWords m ="),
+        "handle" => ("crates/slot/specs/Handle.antt", "\nhandleWords h ="),
         _ => ("crates/updating/specs/Update.antt", "\nupdatedAs (Next millis expired) ="),
     };
     between(&read(path), definition, "=", "[]").matches('∷').count()
 }
 
 fn rows() -> Vec<(&'static str, Vec<String>)> {
-    let (words, answers) = (words(), read("crates/answers/src/lib.rt"));
+    let (words, answers) = (words(), read("crates/rows/src/answers.rt"));
     let next = between(&answers, "*next = [", "[", "]").split(',').map(field_of).collect();
     let rows = vec![
         ("send", read_row(&words)),
@@ -295,8 +295,8 @@ fn wanted_constants() -> BTreeMap<String, u64> {
             ("EID_NULL", number(mctp, "NULL: Eid = Eid(")),
             ("EID_ANY", number(mctp, "ANY: Eid = Eid(")),
             ("OK", 0),
-            ("TAG_FRESH", number("crates/words/src/lib.rt", "if kind == ")),
-            ("TAG_OWNED", number("crates/words/src/lib.rt", "tag_from(kind == ")),
+            ("TAG_FRESH", number("crates/rows/src/lib.rt", "if kind == ")),
+            ("TAG_OWNED", number("crates/rows/src/lib.rt", "tag_from(kind == ")),
             ("TAG_UNOWNED", highest_kind()),
         ]
         .map(|(name, number)| (format!("HYPHALOOM_{name}"), number)),

@@ -1,6 +1,6 @@
 -- The board's sizes, and a send as the exported call reads it from a row.
--- What the other calls answer is in `answers`, what they do in `estack` and the crates that it hands on.
--- Leans on `sending` for the send, on `words` for its row.
+-- What the other calls answer is in `rows`, what they do in `estack` and the crates that it hands on.
+-- Leans on `sending` for the send, on `rows` for its row.
 use mathlib.Core.List.{List}
 use Prim.Native.Nat.{ℕ}
 use Rattle.octets.specs.Pick.{pick}
@@ -9,7 +9,7 @@ use Rattle.fragment.specs.declared.Started.the-variants.{Refused as Unstarted}
 use Rattle.state.specs.declared.Sizes.{Sizes}
 use Rattle.state.specs.Stack.{Stack}
 use Rattle.sending.specs.Sends.{Sent, unsent, startSendOf}
-use Rattle.words.specs.Words.{lawful, sendOf}
+use Rattle.rows.specs.Words.{lawful, sendOf}
 
 -- four slots, bodies of at most 1,032 bytes
 abbrev pub board : Sizes

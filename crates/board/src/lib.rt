@@ -1,6 +1,6 @@
 // The exported calls: every public call of the stack, the fragment step and a look at the state's bytes, for C and Rust, over numbers, byte slices and records of 64-bit numbers.
 // Each answers 0 or the refusal's number; what else it tells goes into a record that is lent, and that a refusal leaves as it was.
-// Leans on `estack`, `fragment` and `kept` for all that is done, on `words` for the records, on `answers` for what is told. Definitions: specs/Board.antt.
+// Leans on `estack`, `fragment` and `kept` for all that is done, on `rows` for the records, on `rows` for what is told. Definitions: specs/Board.antt.
 mod calls;
 
 pub use calls::hyphaloom_cancel_flow;

@@ -23,12 +23,11 @@ use Rattle.state.specs.declared.Sizes.{Sizes}
 use Rattle.state.specs.declared.Head.{Head}
 use Rattle.state.specs.Layout.{flowCount, size}
 use Rattle.state.specs.Head.{reowned}
-use Rattle.state.specs.Stack.{Stack, Becomes, rehead}
-use Rattle.walks.specs.Walks.{reslots, reflows}
+use Rattle.state.specs.Stack.{Stack, Becomes, rehead, reslots, reflows}
 use Rattle.slot_walks.specs.SlotWalks.{swept, blocked}
-use Rattle.handling.specs.declared.Done.{Done}
-use Rattle.handling.specs.declared.Done.the-variants.{Done as Well, Refused}
-use Rattle.handling.specs.Handles.{Outcome}
+use Rattle.handles.specs.declared.Done.{Done}
+use Rattle.handles.specs.declared.Done.the-variants.{Done as Well, Refused}
+use Rattle.handles.specs.Handles.{Outcome}
 
 -- a stack that has done nothing: no slot taken, no flow, tag and sequence counters 0, the planned check at 0, no handle out yet
 abbrev pub freshHead : Eid → ℕ → ℕ → Head

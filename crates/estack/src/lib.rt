@@ -1,33 +1,33 @@
 // The stack: every public call of document 01, over a state kept in lent bytes, after the Rust's `Stack` in src/lib.rs.
 // Here are `new`, EIDs, cancel and free tags; the other calls are handed on. Definitions: specs/Basics.antt.
-// Leans on `state` for the layout, on `slot_walks` and `flow_walks` for walks, on `sending`, `receiving`, `updating` and `handling` for their calls.
+// Leans on `state` for the layout, on `slot_walks` and `flow_walks` for walks, on `sending`, `receiving`, `updating` and `handles` for their calls.
 ghost use mathlib.Core.Path.{_≡_};
 ghost use Prim.Native.Nat.{_+_, _≤_, _<_};
 ghost use lib.ListN.{length};
 ghost use Rattle.state.specs.Head.{reowned};
 ghost use Rattle.state.specs.Stack.{Kept, Becomes, stackOf, rehead};
 ghost use Rattle.estack.specs.Basics.{freshStack, newSays, NewMakes, setEidOf, localOf, cancelOf, freeTagsOf};
-pub use concluding::ReceiveHandle;
-pub use concluding::Received;
-pub use handling::Deferred;
-pub use handling::Done;
-pub use handling::Fetched;
-pub use handling::Message;
-pub use handling::fetch_message;
-pub use handling::finished_receive;
-pub use handling::get_deferred;
-pub use handling::get_deferred_bycookie;
-pub use handling::return_handle;
-pub use handling::set_cookie;
+pub use handles::Deferred;
+pub use handles::Done;
+pub use handles::Fetched;
+pub use handles::Message;
+pub use handles::fetch_message;
+pub use handles::finished_receive;
+pub use handles::get_deferred;
+pub use handles::get_deferred_bycookie;
+pub use handles::return_handle;
+pub use handles::set_cookie;
 use mctp::Eid;
 use mctp::EidRead;
 use mctp::Error;
 use mctp::TagValue;
+pub use receiving::Received;
 pub use receiving::receive;
 pub use sending::Send;
 pub use sending::SendMtu;
 pub use sending::SendTag;
 pub use sending::start_send;
+pub use slot::ReceiveHandle;
 use stamp::EventStamp;
 use state::Head;
 use state::Sizes;

@@ -1,14 +1,15 @@
 // Walks over the flows of a state kept in bytes: which place, the used tags, a flow set or removed, a check of time.
-// Each touches only what it needs. Definitions: specs/FlowWalks.antt, and those of `flows` and `walks`.
-// Leans on `state` for the bytes, on `flows` for one flow's part, on `walks` for the check and for events.
+// Each touches only what it needs. Definitions: specs/FlowWalks.antt, and those of `flows` and `state`.
+// Leans on `state` for the bytes, on `flows` for one flow's part, on `state` for the check and for events.
 ghost use mathlib.Core.Path.{_≡_};
 ghost use mathlib.Core.List.{map, _∷_, []};
 ghost use Prim.Native.Nat.{_+_, _≤_, _<_, _^_};
 ghost use Rattle.octets.specs.Find.{find};
 ghost use Rattle.flows.specs.Table.{isFree, flowPlace, removed, usedTags, flowTimeout, fadedFlow, insertFlow, counted as countedBy, freshFlow, fixedFlow, setFlow};
 ghost use Rattle.state.specs.Layout.{flowCount};
-ghost use Rattle.state.specs.Stack.{Kept, Becomes, stackOf, flowAt, reflow};
-ghost use Rattle.walks.specs.Walks.{renow, reflows, checkOf, flowTimes};
+ghost use Rattle.state.specs.Stack.{Kept, Becomes, stackOf, flowAt, reflow, renow, reflows};
+ghost use Rattle.stamp.specs.Checks.{checkOf};
+ghost use Rattle.state.specs.Times.{flowTimes};
 ghost use Rattle.flow_walks.specs.FlowWalks.{tableOf, retable, hasFlowWord};
 use flows::Granted;
 use flows::TagFound;
@@ -17,9 +18,9 @@ use mctp::Cookie;
 use mctp::Eid;
 use mctp::Error;
 use mctp::TagValue;
+use stamp::Check;
 use stamp::EventStamp;
 use state::Sizes;
-use walks::Check;
 
 fn find_flow_word(state: &[u8], sizes: Sizes, w: u32) -> usize
     requires { ⌜ Kept sizes (now state) ⌝ }
@@ -96,7 +97,7 @@ fn counted(state: &mut [u8], sizes: Sizes, expires: bool) -> EventStamp
     ensures { λ r. ⌜ (r ≡ countedBy expires (stackOf sizes (now (state .entry)) .head .now)) × Becomes sizes (now (state .entry)) (now (state .exit)) (renow (countedBy expires (stackOf sizes (now (state .entry)) .head .now)) (stackOf sizes (now (state .entry)))) ⌝ }
 {
     if expires {
-        return walks::tick(state, sizes);
+        return state::tick(state, sizes);
     }
     state::now_at(state, sizes)
 }

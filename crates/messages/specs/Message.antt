@@ -1,5 +1,5 @@
 -- A message that is handed out: what it says of the facts that fetch gives, and which bytes of the pool are its body.
--- Leans on `octets` for parts of a buffer, on `mctp` for tags and on `handling` for the facts. Where a body would go past the pool, it is
+-- Leans on `octets` for parts of a buffer, on `mctp` for tags and on `handles` for the facts. Where a body would go past the pool, it is
 -- what the pool holds of it: none from a byte past the end.
 use Prim.Native.Nat.{ℕ}
 use mathlib.Core.List.{List}
@@ -7,7 +7,7 @@ use lib.ListN.{take}
 use denote.Ref.{RefT}
 use Rattle.octets.specs.Bytes.{part}
 use Rattle.mctp.specs.Terms.{tagUnder}
-use Rattle.handling.specs.declared.Message.{Message}
+use Rattle.handles.specs.declared.Message.{Message}
 use Rattle.messages.specs.declared.MctpMessage.{MctpMessage}
 
 -- the message's bytes in the pool

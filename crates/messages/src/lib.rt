@@ -1,11 +1,11 @@
 // A handed-out message: a record that borrows its body from the pool, after the Rust's MctpMessage.
 // `lend_message` makes it; `lend_body` and `copy_body` stand beside it for callers with plain parameters. Definitions: specs/Message.antt.
-// Leans on `handling` for the facts of a message, by value, and on `copying` for the copying leaf.
+// Leans on `handles` for the facts of a message, by value, and on `copying` for the copying leaf.
 ghost use mathlib.Core.Path.{_≡_};
 ghost use lib.ListN.{length};
 ghost use Rattle.octets.specs.Bytes.{over, part};
 ghost use Rattle.messages.specs.Message.{bodyOf, messageOf, frontOf};
-use handling::Message;
+use handles::Message;
 use mctp::Cookie;
 use mctp::Eid;
 use mctp::MsgIC;

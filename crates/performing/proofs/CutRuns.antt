@@ -1,5 +1,5 @@
 -- A message that is cut by calls: a send that was started, and steps of the row that it left, until all is sent. The packets in the buffers carry the payload.
--- Leans on `cuts` of `fragment` for the steps, on the laws of `words` for the row that is read back.
+-- Leans on `cuts` of `fragment` for the steps, on the laws of `rows` for the row that is read back.
 use Prim.Native.Nat.{ℕ, _≤_, _<_}
 use native.Mathlib.Omega.{arith}
 use mathlib.Core.Path.{_≡_, refl, sym, ap, subst, _∙_}
@@ -39,9 +39,9 @@ use Rattle.sending.specs.declared.SendTag.{SendTag}
 use Rattle.sending.specs.declared.SendTag.the-variants.{Fresh, Given}
 use Rattle.sending.specs.Sends.{Sent, ownedTag, givenTag, tagFor, sendAs, sendTagged, startSendOf}
 use Rattle.promises.specs.Calls.{startSend}
-use Rattle.words.specs.Words.{advancedRow, fragmenterOf, sendOf}
-use Rattle.words.proofs.Laws.{words-back, row-moves}
-use Rattle.answers.specs.Answers.{lengthAfter, steppedAfter}
+use Rattle.rows.specs.Words.{advancedRow, fragmenterOf, sendOf}
+use Rattle.rows.proofs.Laws.{words-back, row-moves}
+use Rattle.rows.specs.Answers.{lengthAfter, steppedAfter}
 use Rattle.board.specs.Board.{board}
 use Rattle.performing.specs.Perform.{Performs, tells}
 use Rattle.performing.specs.Trace.{Deed, Done}

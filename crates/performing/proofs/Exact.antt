@@ -13,13 +13,14 @@ use Rattle.mctp.proofs.Answers.{error-some}
 use Rattle.slot.specs.Slot.{isEmpty}
 use Rattle.state.specs.Stack.{stackOf, Kept, Becomes}
 use Rattle.state.proofs.StackLaws.{slots-length}
-use Rattle.concluding.specs.declared.ReceiveHandle.{ReceiveHandle}
-use Rattle.concluding.specs.declared.Received.{Received}
-use Rattle.concluding.specs.declared.Received.the-variants.{More, Message as Whole, Refused}
-use Rattle.concluding.specs.Conclude.{handleWords, receivedAs}
-use Rattle.handling.specs.declared.Fetched.{Fetched}
-use Rattle.handling.specs.declared.Fetched.the-variants.{Refused as Unfetched}
-use Rattle.handling.specs.Handles.{isGood, handled, fetchedAs, fetchOf}
+use Rattle.slot.specs.declared.ReceiveHandle.{ReceiveHandle}
+use Rattle.receiving.specs.declared.Received.{Received}
+use Rattle.receiving.specs.declared.Received.the-variants.{More, Message as Whole, Refused}
+use Rattle.slot.specs.Handle.{handleWords}
+use Rattle.receiving.specs.Conclude.{receivedAs}
+use Rattle.handles.specs.declared.Fetched.{Fetched}
+use Rattle.handles.specs.declared.Fetched.the-variants.{Refused as Unfetched}
+use Rattle.handles.specs.Handles.{isGood, handled, fetchedAs, fetchOf}
 use Rattle.promises.specs.Calls.{World, receive, fetchMessage, finishedReceive, returnHandle, setCookie, step, steps, receipt, performed}
 use Rattle.promises.specs.Delivery.{Hands, messageAt, allOf}
 use Rattle.promises.specs.History.{Exactly, history, logged}

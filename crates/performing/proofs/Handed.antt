@@ -11,13 +11,13 @@ use Rattle.mctp.specs.Answer.{Answer, gives, answerNo, answerValues, rowAfter}
 use Rattle.mctp.proofs.Answers.{error-some}
 use Rattle.state.specs.Stack.{Stack, stackOf, Kept}
 use Rattle.state.proofs.StackLaws.{slot-ok}
-use Rattle.concluding.specs.declared.ReceiveHandle.{ReceiveHandle}
-use Rattle.concluding.specs.declared.Received.{Received}
-use Rattle.concluding.specs.declared.Received.the-variants.{More, Message as Whole, Refused}
-use Rattle.concluding.specs.Conclude.{receivedAs}
-use Rattle.handling.specs.declared.Fetched.{Fetched}
-use Rattle.handling.specs.declared.Fetched.the-variants.{Message as Fetch}
-use Rattle.handling.specs.Handles.{fetchedAs, fetchOf}
+use Rattle.slot.specs.declared.ReceiveHandle.{ReceiveHandle}
+use Rattle.receiving.specs.declared.Received.{Received}
+use Rattle.receiving.specs.declared.Received.the-variants.{More, Message as Whole, Refused}
+use Rattle.receiving.specs.Conclude.{receivedAs}
+use Rattle.handles.specs.declared.Fetched.{Fetched}
+use Rattle.handles.specs.declared.Fetched.the-variants.{Message as Fetch}
+use Rattle.handles.specs.Handles.{fetchedAs, fetchOf}
 use Rattle.promises.specs.Calls.{World, receive, fetchMessage, step, steps, receipt}
 use Rattle.promises.specs.Delivery.{Message, Hands, Delivers, readFrom, cookieFor, Lawful}
 use Rattle.promises.proofs.Fetch.{as-told}

@@ -26,7 +26,7 @@ use Rattle.sending.specs.Sends.{ownedTag, tagFor, sendAs, startSendOf}
 use Rattle.estack.specs.Basics.{freshStack}
 use Rattle.promises.specs.Calls.{startSend, permitted}
 use Rattle.promises.specs.Delivery.{Message, ready, cookieFor, allOf}
-use Rattle.words.specs.Words.{cookieFrom, sendTagFrom, sendMtuFrom, fragmenterOf, sendOf}
+use Rattle.rows.specs.Words.{cookieFrom, sendTagFrom, sendMtuFrom, fragmenterOf, sendOf}
 use Rattle.board.specs.Board.{board}
 use Rattle.performing.specs.Perform.{Performs, tells}
 use Rattle.performing.specs.Trace.{Deed, Done, Fed, packetsOf, gapsOf, Feeds, Answers}

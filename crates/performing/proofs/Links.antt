@@ -17,17 +17,17 @@ use Rattle.fragment.specs.declared.Started.the-variants.{Refused as Unstarted}
 use Rattle.fragment.specs.Answers.{startedAs}
 use Rattle.state.specs.Stack.{Stack, stackOf, Kept, Becomes}
 use Rattle.state.proofs.StackLaws.{stays}
-use Rattle.concluding.specs.declared.ReceiveHandle.{ReceiveHandle}
-use Rattle.concluding.specs.Conclude.{receivedAs}
+use Rattle.slot.specs.declared.ReceiveHandle.{ReceiveHandle}
+use Rattle.receiving.specs.Conclude.{receivedAs}
 use Rattle.receiving.specs.Receive.{Receipt, receiveOf}
-use Rattle.handling.specs.declared.Deferred.{Deferred}
-use Rattle.handling.specs.declared.Deferred.the-variants.{Found, Nothing}
-use Rattle.handling.specs.Handles.{Outcome, doneAs, fetchedAs, deferredAs, finishOf, returnOf, cookieOf, fetchOf, bySourceOf, byCookieOf}
+use Rattle.handles.specs.declared.Deferred.{Deferred}
+use Rattle.handles.specs.declared.Deferred.the-variants.{Found, Nothing}
+use Rattle.handles.specs.Handles.{Outcome, doneAs, fetchedAs, deferredAs, finishOf, returnOf, cookieOf, fetchOf, bySourceOf, byCookieOf}
 use Rattle.sending.specs.Sends.{Sent, unsent, startSendOf}
 use Rattle.updating.specs.Update.{updatedAs, updateOf}
 use Rattle.estack.specs.Basics.{setEidOf, localOf, cancelOf, freeTagsOf}
 use Rattle.promises.specs.Calls.{receive, elsewhere, update, startSend, cancelFlow, getDeferred, getDeferredByCookie, fetchMessage, finishedReceive, returnHandle, setCookie, setEid, eid, isLocalDest, freeTags, step, steps}
-use Rattle.words.specs.Words.{lawful, sendOf}
+use Rattle.rows.specs.Words.{lawful, sendOf}
 use Rattle.board.specs.Board.{board, startOf}
 use Rattle.performing.specs.Perform.{Lent, lent, Performs, tells, sendCalls}
 

@@ -12,9 +12,9 @@ use Rattle.mctp.specs.Answer.{answerNo}
 use Rattle.mctp.proofs.Answers.{error-some}
 use Rattle.slot.specs.Slot.{isEmpty}
 use Rattle.state.specs.Stack.{Stack, stackOf, Kept, Becomes}
-use Rattle.handling.specs.declared.Done.{Done}
-use Rattle.handling.specs.declared.Done.the-variants.{Done as Well, Refused}
-use Rattle.handling.specs.Handles.{doneAs}
+use Rattle.handles.specs.declared.Done.{Done}
+use Rattle.handles.specs.declared.Done.the-variants.{Done as Well, Refused}
+use Rattle.handles.specs.Handles.{doneAs}
 use Rattle.estack.specs.Basics.{freshStack, newSays, NewMakes}
 use Rattle.promises.specs.Delivery.{allOf}
 use Rattle.board.specs.Board.{board}

@@ -1,6 +1,6 @@
 -- Steps of a fragmenter that the caller keeps as a row, by `hyphaloom_fragment`, one after another with the payload lent at each: until the length is 0.
 -- And the packets that then lie at the front of the buffers.
--- Leans on `fragment` for a step and its answer, on `answers` and `words` for the row.
+-- Leans on `fragment` for a step and its answer, on `rows` and `rows` for the row.
 use Prim.Native.Nat.{ℕ}
 use mathlib.Core.Path.{_≡_}
 use mathlib.Core.List.{List, [], _∷_, _++_}
@@ -11,8 +11,8 @@ use Rattle.octets.specs.Bytes.{over}
 use Rattle.mctp.specs.Answer.{answerNo}
 use Rattle.fragment.specs.Step.{Step, stepOf}
 use Rattle.fragment.specs.Answers.{outputAs}
-use Rattle.words.specs.Words.{fragmenterOf}
-use Rattle.answers.specs.Answers.{lengthAfter, steppedAfter}
+use Rattle.rows.specs.Words.{fragmenterOf}
+use Rattle.rows.specs.Answers.{lengthAfter, steppedAfter}
 
 -- one step as it was made: the buffer and the length's word that were lent; how they were left; the row afterwards; what was answered
 pub record Cut : Type 0 where

@@ -1,6 +1,6 @@
 -- A call as numbers and bytes name it, and what performing it makes of what is lent.
 -- State and pool are those of `steps`, and what is told is `performed`, of which the theorems speak: nothing here says again what a call does or answers.
--- Leans on `promises` for a call, its step and its answer, on `mctp` for an answer in a row, on `words` for numbers read.
+-- Leans on `promises` for a call, its step and its answer, on `mctp` for an answer in a row, on `rows` for numbers read.
 use Prim.Native.Nat.{ℕ}
 use mathlib.Core.Path.{_≡_}
 use mathlib.Core.List.{List, [], _∷_}
@@ -10,12 +10,12 @@ use Rattle.octets.specs.Pick.{pick}
 use Rattle.octets.specs.Bytes.{over}
 use Rattle.mctp.specs.Answer.{Answer, answerNo, answerValues, rowAfter}
 use Rattle.state.specs.Stack.{stackOf, Becomes}
-use Rattle.concluding.specs.declared.ReceiveHandle.{ReceiveHandle}
+use Rattle.slot.specs.declared.ReceiveHandle.{ReceiveHandle}
 use Rattle.receiving.specs.Receive.{Receipt, receiveOf}
-use Rattle.handling.specs.Handles.{doneAs}
+use Rattle.handles.specs.Handles.{doneAs}
 use Rattle.estack.specs.Basics.{freshStack, newSays}
 use Rattle.promises.specs.Calls.{World, Call, receive, elsewhere, update, startSend, cancelFlow, getDeferred, getDeferredByCookie, fetchMessage, finishedReceive, returnHandle, setCookie, setEid, eid, isLocalDest, freeTags, steps, performed}
-use Rattle.words.specs.Words.{word, narrow, isYes, tagFrom, cookieFrom, lawful, sendOf}
+use Rattle.rows.specs.Words.{word, narrow, isYes, tagFrom, cookieFrom, lawful, sendOf}
 use Rattle.board.specs.Board.{board}
 
 -- what is lent beside the state: the pool that we watch, another buffer, and a row for each kind of answer

@@ -6,10 +6,10 @@ use mathlib.Core.Path.{_≡_}
 use mathlib.Core.Bool.{true}
 use mathlib.Core.List.{List, [], _∷_, _++_}
 use lib.ListN.{length}
-use Rattle.concluding.specs.declared.ReceiveHandle.{ReceiveHandle}
-use Rattle.concluding.specs.Conclude.{handleWords}
-use Rattle.handling.specs.declared.Message.{Message as Facts}
-use Rattle.handling.specs.Handles.{messageWords}
+use Rattle.slot.specs.declared.ReceiveHandle.{ReceiveHandle}
+use Rattle.slot.specs.Handle.{handleWords}
+use Rattle.handles.specs.declared.Message.{Message as Facts}
+use Rattle.handles.specs.Handles.{messageWords}
 use Rattle.promises.specs.Calls.{Call, receive, fetchMessage}
 use Rattle.promises.specs.Delivery.{Message, readFrom, allOf}
 use Rattle.staying.specs.Staying.{spares}

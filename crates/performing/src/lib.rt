@@ -1,6 +1,6 @@
 // Any call by its number, its numbers and its bytes, with an exact contract: state and pool afterwards are those of `steps`, of which the theorems speak.
 // So the prover checks that each exported call does what `step` says of it. Definitions: specs/Perform.antt.
-// Leans on `board` for the calls, on `words` for numbers read; in definitions on `promises`.
+// Leans on `board` for the calls, on `rows` for numbers read; in definitions on `promises`.
 ghost use Prim.Native.Nat.{ℕ};
 ghost use mathlib.Core.Path.{_≡_};
 ghost use mathlib.Core.List.{List};
@@ -10,7 +10,7 @@ ghost use Rattle.mctp.specs.Answer.{flagWord};
 ghost use Rattle.board.specs.Board.{board};
 ghost use Rattle.performing.specs.Cuts.{Cuts};
 ghost use Rattle.performing.specs.Perform.{Lent, lent, Begins, Performs, ownCalls, lookCalls, handleCalls, flowCalls, smallCalls, callsOf};
-use words::narrow;
+use rows::narrow;
 
 fn bit(b: bool) -> u8
     ensures { λ r. ⌜ r ≡ flagWord b ⌝ }

@@ -27,14 +27,14 @@ use Rattle.slot.specs.Slot.{blankSlot, isEmpty, collects}
 use Rattle.slot.specs.Search.{slotFor}
 use Rattle.reassemble.specs.Enter.{enter, append, appended, outcomeOf}
 use Rattle.fragment.specs.Cutting.{bodyIn, saysSom}
-use Rattle.state.specs.Stack.{Stack, slotAt}
-use Rattle.walks.specs.Walks.{ticked}
-use Rattle.concluding.specs.declared.ReceiveHandle.{ReceiveHandle}
-use Rattle.concluding.specs.declared.Received.the-variants.{More}
-use Rattle.concluding.specs.Conclude.{nextIssue, saidOf, receivedAs}
+use Rattle.state.specs.Stack.{Stack, slotAt, ticked}
+use Rattle.slot.specs.declared.ReceiveHandle.{ReceiveHandle}
+use Rattle.receiving.specs.declared.Received.the-variants.{More}
+use Rattle.slot.specs.Handle.{nextIssue}
+use Rattle.receiving.specs.Conclude.{saidOf, receivedAs}
 use Rattle.receiving.specs.Receive.{Receipt, settled, land, opening, gateOf, receiveAt, receiveBy, receiveOf}
 use Rattle.promises.specs.Calls.{World, receive, step, receipt}
-use Rattle.handling.specs.Handles.{messageIn}
+use Rattle.handles.specs.Handles.{messageIn}
 use Rattle.promises.specs.Delivery.{Hands}
 use Rattle.promises.proofs.Pool.{slot-le, bodyAt, pool-length, body-append}
 use Rattle.promises.proofs.Clock.{next-clock, opening-clock}

@@ -18,7 +18,7 @@ use Rattle.slot.specs.Search.{slotFor}
 use Rattle.reassemble.specs.Enter.{gate, enter}
 use Rattle.fragment.specs.Cutting.{PacketIs, InTurn, bodyIn, joined}
 use Rattle.state.specs.Stack.{slotAt}
-use Rattle.concluding.specs.Conclude.{receivedAs}
+use Rattle.receiving.specs.Conclude.{receivedAs}
 use Rattle.promises.specs.Calls.{World, Call, receive, step, steps, permitted}
 use Rattle.promises.specs.Delivery.{nextGap, laterGaps, Delivers, allOf}
 use Rattle.promises.proofs.Facts.{no-both, is-false, and-left, and-right, same-refl}

@@ -20,13 +20,14 @@ use Rattle.slot.specs.Slot.{blankSlot, issueIs}
 use Rattle.reassemble.specs.Enter.{appended, outcomeOf}
 use Rattle.fragment.specs.Cutting.{bodyIn}
 use Rattle.state.specs.Stack.{Stack, slotAt}
-use Rattle.concluding.specs.declared.ReceiveHandle.{ReceiveHandle}
-use Rattle.concluding.specs.declared.Received.{Received}
-use Rattle.concluding.specs.declared.Received.the-variants.{More, Message as Told, Refused}
-use Rattle.concluding.specs.Conclude.{saidOf, handleWords, receivedAs}
+use Rattle.slot.specs.declared.ReceiveHandle.{ReceiveHandle}
+use Rattle.receiving.specs.declared.Received.{Received}
+use Rattle.receiving.specs.declared.Received.the-variants.{More, Message as Told, Refused}
+use Rattle.receiving.specs.Conclude.{saidOf, receivedAs}
+use Rattle.slot.specs.Handle.{handleWords}
 use Rattle.receiving.specs.Receive.{Receipt, receiveOf}
-use Rattle.handling.specs.declared.Fetched.the-variants.{Message as Fetch}
-use Rattle.handling.specs.Handles.{isGood, messageIn, fetchOf}
+use Rattle.handles.specs.declared.Fetched.the-variants.{Message as Fetch}
+use Rattle.handles.specs.Handles.{isGood, messageIn, fetchOf}
 use Rattle.promises.specs.Calls.{World, receive, step, receipt, performed}
 use Rattle.promises.specs.History.{takes}
 use Rattle.promises.proofs.Facts.{no-both, no-true}

@@ -14,8 +14,8 @@ use Rattle.slot.specs.Search.{slotFor}
 use Rattle.reassemble.specs.Enter.{isLocal, opening, gate, gateEmpty, enter, append}
 use Rattle.fragment.specs.Step.{newOf, stepOf}
 use Rattle.fragment.specs.Run.{written}
-use Rattle.walks.specs.Walks.{leastLeft, anyExpired}
-use Rattle.concluding.specs.Conclude.{nextIssue}
+use Rattle.stamp.specs.Checks.{leastLeft, anyExpired}
+use Rattle.slot.specs.Handle.{nextIssue}
 use Rattle.receiving.specs.Receive.{land, receiveAt, receiveBy, receiveOf}
 use Rattle.sending.specs.Sends.{ownedTag, tagFor, sendAs, startSendOf}
 use Rattle.updating.specs.Update.{checked, updateOf}

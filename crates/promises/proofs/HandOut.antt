@@ -21,9 +21,9 @@ use Rattle.slot.specs.Slot.{collects}
 use Rattle.reassemble.specs.Enter.{opening, opened, gateReply, gateEmpty}
 use Rattle.fragment.specs.Cutting.{PacketIs, InTurn, bodyIn, joined, kindIn}
 use Rattle.state.specs.Stack.{slotAt}
-use Rattle.handling.specs.declared.Fetched.{Fetched}
-use Rattle.handling.specs.declared.Fetched.the-variants.{Message as Fetch}
-use Rattle.handling.specs.Handles.{fetchOf}
+use Rattle.handles.specs.declared.Fetched.{Fetched}
+use Rattle.handles.specs.declared.Fetched.the-variants.{Message as Fetch}
+use Rattle.handles.specs.Handles.{fetchOf}
 use Rattle.promises.specs.Calls.{World, Call, receive, step, steps}
 use Rattle.promises.specs.Delivery.{Message, readFrom, nextGap, laterGaps, Delivers, collecting, vacancy, cookieFor, Lawful}
 use Rattle.promises.proofs.Facts.{no-true}

@@ -25,7 +25,7 @@ use Rattle.flows.specs.Table.{standing, isFlow, newFlow, insertFlow, withTag, f
 use Rattle.slot.specs.Slot.{fadedSlot}
 use Rattle.slot.specs.Search.{slotFor}
 use Rattle.reassemble.specs.Enter.{isLocal, opening, gate, gateEmpty, gateReply, enter, append}
-use Rattle.walks.specs.Walks.{leastLeft}
+use Rattle.stamp.specs.Checks.{leastLeft}
 use Rattle.fragment.specs.declared.Fragmenter.{Fragmenter}
 use Rattle.fragment.specs.Step.{newOf, fresh, stepOf}
 use Rattle.fragment.specs.Cutting.{InTurn, joined, kindIn, Carries}
@@ -33,7 +33,7 @@ use Rattle.fragment.specs.Run.{written, after}
 use Rattle.sending.specs.declared.Send.{Send}
 use Rattle.sending.specs.declared.SendTag.the-variants.{Fresh}
 use Rattle.sending.specs.declared.SendMtu.the-variants.{Own}
-use Rattle.concluding.specs.Conclude.{nextIssue}
+use Rattle.slot.specs.Handle.{nextIssue}
 use Rattle.receiving.specs.Receive.{land, receiveAt, receiveBy, receiveOf}
 use Rattle.sending.specs.Sends.{ownedTag, tagFor, sendAs, startSendOf}
 use Rattle.updating.specs.Update.{checked, updateOf}

@@ -15,12 +15,12 @@ use Rattle.slot.specs.declared.Reassembler.{Reassembler}
 use Rattle.slot.specs.Slot.{issueIs, keptUnder, listed}
 use Rattle.slot.specs.Search.{earliest}
 use Rattle.state.specs.Stack.{Stack, slotAt}
-use Rattle.concluding.specs.declared.ReceiveHandle.{ReceiveHandle}
-use Rattle.concluding.specs.declared.Received.the-variants.{Message as Told}
-use Rattle.concluding.specs.Conclude.{nextIssue}
+use Rattle.slot.specs.declared.ReceiveHandle.{ReceiveHandle}
+use Rattle.receiving.specs.declared.Received.the-variants.{Message as Told}
+use Rattle.slot.specs.Handle.{nextIssue}
 use Rattle.receiving.specs.Receive.{receiveOf}
-use Rattle.handling.specs.declared.Deferred.the-variants.{Found}
-use Rattle.handling.specs.Handles.{Lookup, isGood, takeOf, bySourceOf, byCookieOf}
+use Rattle.handles.specs.declared.Deferred.the-variants.{Found}
+use Rattle.handles.specs.Handles.{Lookup, isGood, takeOf, bySourceOf, byCookieOf}
 use Rattle.promises.specs.Calls.{Call, World, step, steps}
 use Rattle.promises.proofs.Stale.{Renumbered, same, idle, fresh, numbers, receive-counted, good-is, idle-issue}
 

@@ -10,7 +10,7 @@ use lib.ListN.{getD}
 use Rattle.stamp.specs.declared.Timeout.{Timeout}
 use Rattle.stamp.specs.declared.Timeout.the-variants.{Untimed, Expired, Left}
 use Rattle.stamp.specs.Stamp.{soonerOf}
-use Rattle.walks.specs.Walks.{leastLeft}
+use Rattle.stamp.specs.Checks.{leastLeft}
 
 -- n is least of `most` and of what is left by the times f
 pub record LeastOf (n most : ℕ) {A : Type 0} (f : A → Timeout) (d : A) (l : List A) : Type 0 where

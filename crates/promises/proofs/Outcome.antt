@@ -23,9 +23,9 @@ use Rattle.slot.specs.Slot.{blankSlot, isEmpty}
 use Rattle.slot.specs.Search.{slotFor}
 use Rattle.reassemble.specs.Enter.{enter, append, appended, begun, freed, outcomeOf}
 use Rattle.fragment.specs.Cutting.{bodyIn, saysSom}
-use Rattle.state.specs.Stack.{Stack, slotAt}
-use Rattle.walks.specs.Walks.{ticked}
-use Rattle.concluding.specs.Conclude.{nextIssue, saidOf}
+use Rattle.state.specs.Stack.{Stack, slotAt, ticked}
+use Rattle.slot.specs.Handle.{nextIssue}
+use Rattle.receiving.specs.Conclude.{saidOf}
 use Rattle.receiving.specs.Receive.{Receipt, settled, land, opening, gateOf, receiveAt, receiveBy, receiveOf}
 use Rattle.promises.specs.Delivery.{cookieFor}
 use Rattle.promises.specs.History.{takes}

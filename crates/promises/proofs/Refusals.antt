@@ -28,19 +28,20 @@ use Rattle.fragment.specs.Step.{Step, newOf, stepOf}
 use Rattle.fragment.specs.Answers.{outputAs}
 use Rattle.state.specs.declared.Sizes.{Sizes}
 use Rattle.state.specs.Stack.{Stack}
-use Rattle.walks.specs.Walks.{leastLeft, anyExpired}
+use Rattle.stamp.specs.Checks.{leastLeft, anyExpired}
 use Rattle.slot_walks.specs.SlotWalks.{swept, blocked}
-use Rattle.concluding.specs.declared.ReceiveHandle.{ReceiveHandle}
-use Rattle.concluding.specs.declared.Received.the-variants.{Refused}
-use Rattle.concluding.specs.Conclude.{nextIssue, receivedAs}
+use Rattle.slot.specs.declared.ReceiveHandle.{ReceiveHandle}
+use Rattle.receiving.specs.declared.Received.the-variants.{Refused}
+use Rattle.slot.specs.Handle.{nextIssue}
+use Rattle.receiving.specs.Conclude.{receivedAs}
 use Rattle.receiving.specs.Receive.{land, receiveAt, receiveBy, receiveOf}
 use Rattle.sending.specs.Sends.{ownedTag, givenTag, tagFor, sendAs, startSendOf}
 use Rattle.updating.specs.Update.{Update, updatedAs, checked, updateOf}
-use Rattle.handling.specs.declared.Done.{Done}
-use Rattle.handling.specs.declared.Deferred.{Deferred}
-use Rattle.handling.specs.declared.Deferred.the-variants.{Found, Nothing}
-use Rattle.handling.specs.declared.Fetched.{Fetched}
-use Rattle.handling.specs.Handles.{Outcome, doneAs, fetchedAs, deferredAs, isGood, handled, fetchOf, bySourceOf, byCookieOf}
+use Rattle.handles.specs.declared.Done.{Done}
+use Rattle.handles.specs.declared.Deferred.{Deferred}
+use Rattle.handles.specs.declared.Deferred.the-variants.{Found, Nothing}
+use Rattle.handles.specs.declared.Fetched.{Fetched}
+use Rattle.handles.specs.Handles.{Outcome, doneAs, fetchedAs, deferredAs, isGood, handled, fetchOf, bySourceOf, byCookieOf}
 use Rattle.estack.specs.Basics.{newSays, setEidOf, eidSet, cancelOf}
 use Rattle.promises.specs.Calls.{Call, receive, elsewhere, update, startSend, cancelFlow, getDeferred, getDeferredByCookie, fetchMessage, finishedReceive, returnHandle, setCookie, setEid, eid, isLocalDest, freeTags, World, with, step, receipt, performed}
 use Rattle.promises.specs.Refusals.{refusalsOf, placeOf, receiveNo, sendNo, cancelNo, saysNo, Among, Unstepped, still}

@@ -19,7 +19,7 @@ use Rattle.slot.specs.declared.Reassembler.{Reassembler}
 use Rattle.slot.specs.Slot.{blankSlot, isReply, handleTaken}
 use Rattle.state.specs.Stack.{Stack}
 use Rattle.slot_walks.specs.SlotWalks.{swept, blocked}
-use Rattle.handling.specs.Handles.{Outcome, doneAs}
+use Rattle.handles.specs.Handles.{Outcome, doneAs}
 use Rattle.estack.specs.Basics.{cancelOf}
 use Rattle.promises.specs.Calls.{World, cancelFlow, step, performed}
 use Rattle.promises.specs.Refusals.{Among, cancelNo, stops, sweptAt, Uncancelled, bad-tag, under-handle}

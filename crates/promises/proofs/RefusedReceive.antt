@@ -28,9 +28,9 @@ use Rattle.reassemble.specs.declared.Gate.{Gate}
 use Rattle.reassemble.specs.declared.Gate.the-variants.{Shut, Pass}
 use Rattle.reassemble.specs.declared.Entry.{Entry}
 use Rattle.reassemble.specs.Enter.{opened, gate, gateEmpty, gateReply, enter, append, appended, begun, freed, outcomeOf}
-use Rattle.state.specs.Stack.{Stack, slotAt, reslot}
-use Rattle.walks.specs.Walks.{ticked}
-use Rattle.concluding.specs.Conclude.{nextIssue, receivedAs}
+use Rattle.state.specs.Stack.{Stack, slotAt, reslot, ticked}
+use Rattle.slot.specs.Handle.{nextIssue}
+use Rattle.receiving.specs.Conclude.{receivedAs}
 use Rattle.receiving.specs.Receive.{Receipt, settled, land, receiveAt, receiveBy, receiveOf}
 use Rattle.promises.specs.Refusals.{isOne, Among, asked, overlong, dropped, placeOf, firstOf, slotNo, receiveNo, Left, pool-short, no-slot, shut-out, not-begun, broken-off, Spared}
 use Rattle.promises.proofs.Facts.{no-both}

@@ -13,7 +13,7 @@ use Rattle.slot.specs.declared.Reassembler.{Reassembler}
 use Rattle.slot.specs.Slot.{blankSlot, isEmpty, emptyState, collects}
 use Rattle.reassemble.specs.Enter.{outcomeOf}
 use Rattle.state.specs.Stack.{slotAt}
-use Rattle.concluding.specs.Conclude.{saidOf}
+use Rattle.receiving.specs.Conclude.{saidOf}
 use Rattle.receiving.specs.Receive.{Receipt, receiveOf}
 use Rattle.promises.specs.Calls.{World, Call, step, steps}
 use Rattle.promises.specs.Delivery.{allOf}

@@ -31,12 +31,13 @@ use Rattle.fragment.specs.declared.Fragmenter.{Fragmenter}
 use Rattle.fragment.specs.Cutting.{bodyIn}
 use Rattle.fragment.specs.Step.{Step, packetOf, emitted, stepOf}
 use Rattle.state.specs.Stack.{Stack, slotAt, flowAt}
-use Rattle.concluding.specs.declared.ReceiveHandle.{ReceiveHandle}
-use Rattle.concluding.specs.declared.Received.the-variants.{Message as Told}
+use Rattle.slot.specs.declared.ReceiveHandle.{ReceiveHandle}
+use Rattle.receiving.specs.declared.Received.the-variants.{Message as Told}
 use Rattle.updating.specs.declared.Updated.the-variants.{Next, Refused}
-use Rattle.concluding.specs.Conclude.{saidOf}
+use Rattle.receiving.specs.Conclude.{saidOf}
 use Rattle.receiving.specs.Receive.{Receipt, receiveOf}
-use Rattle.walks.specs.Walks.{leastLeft, slotTimes}
+use Rattle.stamp.specs.Checks.{leastLeft}
+use Rattle.state.specs.Times.{slotTimes}
 use Rattle.updating.specs.Update.{Update, interval, leastOf, checked, updateOf}
 use Rattle.estack.specs.Basics.{freeTagsOf}
 use Rattle.promises.specs.Calls.{World, Call, receive, step, receipt}

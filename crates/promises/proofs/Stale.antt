@@ -40,21 +40,21 @@ use Rattle.slot.specs.Search.{slotFor, earliest}
 use Rattle.reassemble.specs.Enter.{enter, appended, outcomeOf}
 use Rattle.fragment.specs.Cutting.{bodyIn}
 use Rattle.stamp.specs.Stamp.{next, clocked}
-use Rattle.state.specs.Stack.{Stack, slotAt, reslot}
+use Rattle.state.specs.Stack.{Stack, slotAt, reslot, ticked, renow}
 use Rattle.slot_walks.specs.SlotWalks.{swept}
-use Rattle.walks.specs.Walks.{ticked, renow}
-use Rattle.concluding.specs.declared.ReceiveHandle.{ReceiveHandle}
-use Rattle.concluding.specs.declared.Received.the-variants.{Message as Told}
-use Rattle.concluding.specs.Conclude.{nextIssue, saidOf, issueAfter}
+use Rattle.slot.specs.declared.ReceiveHandle.{ReceiveHandle}
+use Rattle.receiving.specs.declared.Received.the-variants.{Message as Told}
+use Rattle.slot.specs.Handle.{nextIssue}
+use Rattle.receiving.specs.Conclude.{saidOf, issueAfter}
 use Rattle.receiving.specs.Receive.{Receipt, refuse, settled, land, gateOf, receiveAt, receiveBy, receiveOf}
 use Rattle.sending.specs.declared.Send.{Send}
 use Rattle.sending.specs.declared.Carried.{Carried}
 use Rattle.sending.specs.declared.Carried.the-variants.{Under, Refused as Untagged}
 use Rattle.sending.specs.declared.SendTag.{SendTag}
 use Rattle.sending.specs.declared.SendTag.the-variants.{Fresh, Given}
-use Rattle.handling.specs.declared.Deferred.the-variants.{Found}
-use Rattle.handling.specs.Handles as handles
-use Rattle.handling.specs.Handles.{Lookup, isGood, handled, finishOf, returnOf, takeOf, bySourceOf}
+use Rattle.handles.specs.declared.Deferred.the-variants.{Found}
+use Rattle.handles.specs.Handles as handles
+use Rattle.handles.specs.Handles.{Lookup, isGood, handled, finishOf, returnOf, takeOf, bySourceOf}
 use Rattle.sending.specs.Sends.{Sent, ownedTag, givenTag, tagFor, sendAs, sendTagged, startSendOf}
 use Rattle.updating.specs.Update.{Update, checked, updateOf}
 use Rattle.estack.specs.Basics.{eidSet, cancelOf}

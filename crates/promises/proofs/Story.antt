@@ -18,7 +18,7 @@ use Rattle.slot.specs.Slot.{blankSlot, collects}
 use Rattle.reassemble.specs.Enter.{appended}
 use Rattle.fragment.specs.Cutting.{bodyIn}
 use Rattle.state.specs.Stack.{Stack, slotAt}
-use Rattle.handling.specs.Handles.{messageIn}
+use Rattle.handles.specs.Handles.{messageIn}
 use Rattle.promises.specs.Calls.{World}
 use Rattle.promises.specs.Delivery.{readFrom, allOf}
 use Rattle.promises.specs.History.{Taken, since, gathered, follows, numbered, Opens}

@@ -20,7 +20,7 @@ use Rattle.reassemble.specs.Enter.{appended}
 use Rattle.fragment.specs.Cutting.{bodyIn}
 use Rattle.state.specs.Stack.{slotAt}
 use Rattle.receiving.specs.Receive.{Receipt}
-use Rattle.handling.specs.Handles.{messageIn}
+use Rattle.handles.specs.Handles.{messageIn}
 use Rattle.promises.specs.Calls.{World}
 use Rattle.promises.specs.Delivery.{readFrom, cookieFor}
 use Rattle.promises.specs.History.{Taken, since}

@@ -16,12 +16,13 @@ use Rattle.slot.specs.Slot.{isEmpty}
 use Rattle.reassemble.specs.Enter.{outcomeOf}
 use Rattle.state.specs.Stack.{Stack}
 use Rattle.mctp.specs.Answer.{gives}
-use Rattle.concluding.specs.declared.ReceiveHandle.{ReceiveHandle}
-use Rattle.concluding.specs.declared.Received.{Received}
-use Rattle.concluding.specs.declared.Received.the-variants.{Message as Handed}
-use Rattle.concluding.specs.Conclude.{saidOf, handleWords}
+use Rattle.slot.specs.declared.ReceiveHandle.{ReceiveHandle}
+use Rattle.receiving.specs.declared.Received.{Received}
+use Rattle.receiving.specs.declared.Received.the-variants.{Message as Handed}
+use Rattle.receiving.specs.Conclude.{saidOf}
+use Rattle.slot.specs.Handle.{handleWords}
 use Rattle.receiving.specs.Receive.{Receipt, receiveOf}
-use Rattle.handling.specs.Handles.{messageIn}
+use Rattle.handles.specs.Handles.{messageIn}
 use Rattle.promises.specs.Calls.{Call, receive, elsewhere, update, startSend, cancelFlow, getDeferred, getDeferredByCookie, fetchMessage, finishedReceive, returnHandle, setCookie, setEid, eid, isLocalDest, freeTags, World, step, steps, receipt, performed, hasKey}
 use Rattle.promises.specs.Delivery.{readFrom, messageAt, allOf}
 use Rattle.promises.specs.History.{Taken, takes, note, noted, logged, history, lentHere, since, gathered, Exactly}

@@ -22,12 +22,11 @@ use Rattle.slot.specs.declared.State.the-variants.{Empty, Collecting, Done, Han
 use Rattle.slot.specs.declared.Reassembler.{Reassembler}
 use Rattle.slot.specs.Slot.{blankSlot, collectingState, outState, issueIs, handleTaken, isDone, isReply, keptUnder, slotTimeout, fadedSlot, restated}
 use Rattle.slot.specs.Search.{earliest}
-use Rattle.state.specs.Stack.{Stack, slotAt}
+use Rattle.state.specs.Stack.{Stack, slotAt, renow}
 use Rattle.slot_walks.specs.SlotWalks.{swept}
-use Rattle.walks.specs.Walks.{renow}
-use Rattle.concluding.specs.declared.ReceiveHandle.{ReceiveHandle}
-use Rattle.concluding.specs.Conclude.{nextIssue}
-use Rattle.handling.specs.Handles.{Outcome, Lookup, isGood, handled, takeOf, deferredOf, bySourceOf}
+use Rattle.slot.specs.declared.ReceiveHandle.{ReceiveHandle}
+use Rattle.slot.specs.Handle.{nextIssue}
+use Rattle.handles.specs.Handles.{Outcome, Lookup, isGood, handled, takeOf, deferredOf, bySourceOf}
 use Rattle.updating.specs.Update.{Update, checked, updateOf}
 use Rattle.estack.specs.Basics.{cancelOf}
 use Rattle.promises.proofs.Facts.{no-true}

@@ -19,11 +19,11 @@ use Rattle.mctp.specs.Header.{headerOf}
 use Rattle.mctp.specs.Answer.{Answer, gives, flagWord}
 use Rattle.fragment.specs.Answers.{startedAs}
 use Rattle.state.specs.Stack.{Stack}
-use Rattle.concluding.specs.declared.ReceiveHandle.{ReceiveHandle}
-use Rattle.concluding.specs.Conclude.{receivedAs}
+use Rattle.slot.specs.declared.ReceiveHandle.{ReceiveHandle}
+use Rattle.receiving.specs.Conclude.{receivedAs}
 use Rattle.sending.specs.declared.Send.{Send}
 use Rattle.receiving.specs.Receive.{Receipt, receiveOf}
-use Rattle.handling.specs.Handles.{doneAs, fetchedAs, deferredAs, fetchOf, finishOf, returnOf, cookieOf, bySourceOf, byCookieOf}
+use Rattle.handles.specs.Handles.{doneAs, fetchedAs, deferredAs, fetchOf, finishOf, returnOf, cookieOf, bySourceOf, byCookieOf}
 use Rattle.sending.specs.Sends.{startSendOf}
 use Rattle.updating.specs.Update.{updatedAs, updateOf}
 use Rattle.estack.specs.Basics.{setEidOf, localOf, cancelOf, freeTagsOf}

@@ -23,11 +23,11 @@ use Rattle.slot.specs.Slot.{isEmpty, collects}
 use Rattle.reassemble.specs.Enter.{isLocal}
 use Rattle.state.specs.Stack.{Stack, slotAt}
 use Rattle.fragment.specs.Cutting.{Carries}
-use Rattle.concluding.specs.declared.ReceiveHandle.{ReceiveHandle}
-use Rattle.concluding.specs.Conclude.{handleWords}
-use Rattle.handling.specs.declared.Message.{Message as Facts}
-use Rattle.handling.specs.declared.Fetched.the-variants.{Message as Fetch}
-use Rattle.handling.specs.Handles.{messageIn, fetchOf}
+use Rattle.slot.specs.declared.ReceiveHandle.{ReceiveHandle}
+use Rattle.slot.specs.Handle.{handleWords}
+use Rattle.handles.specs.declared.Message.{Message as Facts}
+use Rattle.handles.specs.declared.Fetched.the-variants.{Message as Fetch}
+use Rattle.handles.specs.Handles.{messageIn, fetchOf}
 use Rattle.promises.specs.Calls.{World, Call, receive, step, steps, performed, permitted}
 
 -- what is handed out: key, type, IC, body and cookie

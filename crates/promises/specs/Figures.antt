@@ -19,8 +19,8 @@ use Rattle.fragment.specs.declared.Started.the-variants.{Sends, Refused as Unse
 use Rattle.fragment.specs.Step.{stepOf}
 use Rattle.fragment.specs.Run.{written}
 use Rattle.state.specs.Stack.{Stack, slotAt}
-use Rattle.concluding.specs.declared.Received.{Received}
-use Rattle.concluding.specs.declared.Received.the-variants.{More, Message as Told, Refused as Unreceived}
+use Rattle.receiving.specs.declared.Received.{Received}
+use Rattle.receiving.specs.declared.Received.the-variants.{More, Message as Told, Refused as Unreceived}
 use Rattle.updating.specs.declared.Updated.{Updated}
 use Rattle.updating.specs.declared.Updated.the-variants.{Next, Refused as Unmoved}
 use Rattle.sending.specs.declared.Send.{Send}

@@ -16,8 +16,8 @@ use Rattle.mctp.specs.declared.Cookie.{Cookie}
 use Rattle.mctp.specs.Terms.{sameKey}
 use Rattle.mctp.specs.Header.{headerOf, typeOf}
 use Rattle.fragment.specs.Cutting.{bodyIn}
-use Rattle.concluding.specs.declared.Received.{Received}
-use Rattle.concluding.specs.declared.Received.the-variants.{More, Message as Told, Refused}
+use Rattle.receiving.specs.declared.Received.{Received}
+use Rattle.receiving.specs.declared.Received.the-variants.{More, Message as Told, Refused}
 use Rattle.receiving.specs.Receive.{receiveOf}
 use Rattle.state.specs.Stack.{Stack}
 use Rattle.promises.specs.Calls.{World, Call, receive, elsewhere, update, startSend, cancelFlow, getDeferred, getDeferredByCookie, fetchMessage, finishedReceive, returnHandle, setCookie, setEid, eid, isLocalDest, freeTags, step, receipt, hasKey}

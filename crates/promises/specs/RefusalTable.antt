@@ -8,7 +8,7 @@ use lib.ListN.{replicate}
 use Rattle.mctp.specs.declared.Tag.the-variants.{Owned}
 use Rattle.mctp.specs.declared.Cookie.the-variants.{Absent}
 use Rattle.mctp.specs.Answer.{Answer, refuses}
-use Rattle.concluding.specs.declared.ReceiveHandle.{ReceiveHandle}
+use Rattle.slot.specs.declared.ReceiveHandle.{ReceiveHandle}
 use Rattle.sending.specs.declared.Send.{Send}
 use Rattle.sending.specs.declared.SendTag.the-variants.{Fresh, Given}
 use Rattle.sending.specs.declared.SendMtu.the-variants.{Own, AtMost}

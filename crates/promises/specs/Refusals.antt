@@ -25,15 +25,14 @@ use Rattle.fragment.specs.declared.Fragmenter.{Fragmenter}
 use Rattle.fragment.specs.Step.{Step}
 use Rattle.state.specs.declared.Head.{Head}
 use Rattle.state.specs.Head.{retagged, renowed}
-use Rattle.state.specs.Stack.{Stack, slotAt, rehead, reslot}
-use Rattle.walks.specs.Walks.{ticked}
+use Rattle.state.specs.Stack.{Stack, slotAt, rehead, reslot, ticked}
 use Rattle.sending.specs.declared.Send.{Send}
 use Rattle.sending.specs.declared.SendTag.{SendTag}
 use Rattle.sending.specs.declared.SendTag.the-variants.{Fresh, Given}
 use Rattle.sending.specs.declared.SendMtu.{SendMtu}
 use Rattle.sending.specs.declared.SendMtu.the-variants.{AtMost}
 use Rattle.sending.specs.Sends.{badTag, mtuOf, startSendOf}
-use Rattle.handling.specs.Handles.{isGood}
+use Rattle.handles.specs.Handles.{isGood}
 use Rattle.estack.specs.Basics.{freeTagsOf}
 use Rattle.promises.specs.Calls.{Call, receive, elsewhere, update, startSend, cancelFlow, getDeferred, getDeferredByCookie, fetchMessage, finishedReceive, returnHandle, setCookie, setEid, eid, isLocalDest, freeTags, World}
 

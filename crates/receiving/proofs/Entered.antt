@@ -32,9 +32,8 @@ use Rattle.reassemble.specs.declared.Gate.the-variants.{Shut, Pass}
 use Rattle.reassemble.specs.Enter.{enter, append, appended, begun, opened, gateEmpty, gateReply}
 use Rattle.state.specs.declared.Sizes.{Sizes}
 use Rattle.state.specs.Slot.{SlotOk, issueNo}
-use Rattle.state.specs.Stack.{Stack, Kept, Becomes, stackOf}
+use Rattle.state.specs.Stack.{Stack, Kept, Becomes, stackOf, ticked}
 use Rattle.state.proofs.StackLaws.{flow-ok, head-ok}
-use Rattle.walks.specs.Walks.{ticked}
 use Rattle.slot_walks.proofs.SlotChecks.{blank-ok}
 
 -- bytes that fit slot i's body fit the pool

@@ -3,3 +3,4 @@ pub mod Entered
 pub mod Receipts
 pub mod Middle
 pub mod Pinned
+pub mod Ends

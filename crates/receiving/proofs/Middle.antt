@@ -17,8 +17,7 @@ use Rattle.reassemble.specs.declared.Gate.the-variants.{Pass}
 use Rattle.reassemble.specs.Enter.{enter, append, appended, outcomeOf}
 use Rattle.state.specs.declared.Progress.{Progress}
 use Rattle.state.specs.Slot.{progress, progressOf}
-use Rattle.state.specs.Stack.{Stack}
-use Rattle.walks.specs.Walks.{ticked}
+use Rattle.state.specs.Stack.{Stack, ticked}
 use Rattle.receiving.specs.Receive.{goesOn, settled, land}
 
 record Goes (h : Header) (g : Progress) (n B : ℕ) : Type 0 where

@@ -4,7 +4,7 @@ use mathlib.Core.Path.{_≡_, sym, _∙_}
 use mathlib.Core.List.{List}
 use Rattle.state.specs.declared.Sizes.{Sizes}
 use Rattle.state.proofs.StackLaws.{determined}
-use Rattle.concluding.specs.declared.Received.{Received}
+use Rattle.receiving.specs.declared.Received.{Received}
 use Rattle.receiving.specs.Receive.{Receipt, Makes}
 
 -- what is said, the state's bytes and the pool's

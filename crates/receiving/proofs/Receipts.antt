@@ -34,12 +34,11 @@ use Rattle.slot.specs.Slot.{blankSlot, isEmpty, emptyState, collects, collectsI
 use Rattle.slot.specs.Search.{slotFor}
 use Rattle.reassemble.specs.Enter.{gate, gateEmpty, gateReply, enter}
 use Rattle.state.specs.declared.Sizes.{Sizes}
-use Rattle.state.specs.Stack.{Stack, Becomes, stackOf, slotAt}
+use Rattle.state.specs.Stack.{Stack, Becomes, stackOf, slotAt, ticked}
 use Rattle.state.proofs.StackLaws.{andThen}
-use Rattle.walks.specs.Walks.{ticked}
-use Rattle.concluding.specs.declared.Received.{Received}
-use Rattle.concluding.specs.declared.Received.the-variants.{Refused}
-use Rattle.concluding.specs.Conclude.{nextIssue}
+use Rattle.receiving.specs.declared.Received.{Received}
+use Rattle.receiving.specs.declared.Received.the-variants.{Refused}
+use Rattle.slot.specs.Handle.{nextIssue}
 use Rattle.receiving.specs.Receive.{Receipt, Makes, refuse, settled, land, receiveAt, receiveBy, receiveOf}
 
 -- step 3: the slot that the packet enters, the event's stamp and the number are the definition's

@@ -1,6 +1,6 @@
 -- Document 01, "Reassembler", receive: PoolShort first; then the slot, NoSpace before any look at the header; then steps 2 to 6. B is the most that a
 -- body holds; slot i keeps its body from byte B i of the pool. The answer holds the stack after the call, what is said, and the one write to the pool.
--- Leans on `reassemble` for one slot's part, on `flows` for the reply's flow, on `concluding` for what an outcome says.
+-- Leans on `reassemble` for one slot's part, on `flows` for the reply's flow, on `receiving` for what an outcome says.
 use Prim.Native.Nat.{ℕ, _+_, _-_, _*_}
 use mathlib.Core.Path.{_≡_}
 use mathlib.Core.Bool.{Bool, false}
@@ -25,11 +25,11 @@ use Rattle.slot.specs.Search.{slotFor}
 use Rattle.reassemble.specs.Enter.{gate, enter}
 use Rattle.state.specs.declared.Progress.{Progress}
 use Rattle.state.specs.declared.Sizes.{Sizes}
-use Rattle.state.specs.Stack.{Stack, Becomes, slotAt, reslot}
-use Rattle.walks.specs.Walks.{ticked}
-use Rattle.concluding.specs.declared.Received.{Received}
-use Rattle.concluding.specs.declared.Received.the-variants.{Refused}
-use Rattle.concluding.specs.Conclude.{nextIssue, saidOf, concluded}
+use Rattle.state.specs.Stack.{Stack, Becomes, slotAt, reslot, ticked}
+use Rattle.receiving.specs.declared.Received.{Received}
+use Rattle.receiving.specs.declared.Received.the-variants.{Refused}
+use Rattle.slot.specs.Handle.{nextIssue}
+use Rattle.receiving.specs.Conclude.{saidOf, concluded}
 
 pub record Receipt : Type 0 where
   pub stack : Stack

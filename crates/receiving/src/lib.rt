@@ -1,19 +1,21 @@
 // Receive: document 01's call over the whole stack. Find the slot, gate, enter, settle: one store of one slot, one write to the pool, then the flow.
-// A middle packet goes a short way: of its slot the sequence and the length alone are read and stored. Definitions: specs/Receive.antt.
-// Leans on `state` for the layout, on `slot_walks` and `flow_walks` for searches, on `reassemble` for one slot's part, on `concluding` for its end.
+// A middle packet goes a short way: of its slot the sequence and the length alone are read and stored. Definitions: specs/Receive.antt, specs/Conclude.antt.
+// Leans on `state` for the layout, on `slot_walks` and `flow_walks` for searches, on `reassemble` for one slot's part.
 ghost use mathlib.Core.Path.{_≡_};
 ghost use Prim.Native.Nat.{_+_, _-_, _*_, _≤_, _<_};
 ghost use lib.ListN.{length};
 ghost use mathlib.Core.Bool.{true};
 ghost use Rattle.mctp.specs.declared.HeaderRead.the-variants.{Good, Bad};
 ghost use Rattle.reassemble.specs.declared.Gate.the-variants.{Pass};
+ghost use Rattle.reassemble.specs.declared.Outcome.the-variants.{Whole};
+ghost use Rattle.slot.specs.Handle.{nextIssue};
+ghost use Rattle.state.specs.Stack.{reflows, Kept, Becomes, stackOf, slotAt};
+ghost use Rattle.receiving.specs.Conclude.{concluded, saidOf, flowsAfter};
 ghost use Rattle.slot.specs.Slot.{isEmpty};
 ghost use Rattle.reassemble.specs.Enter.{gateEmpty, gateReply, Planned};
 ghost use Rattle.flows.specs.Table.{standing, flowCookie};
 ghost use Rattle.state.specs.Slot.{SlotOk, progressOf};
-ghost use Rattle.state.specs.Stack.{Kept, Becomes, stackOf, slotAt};
 ghost use Rattle.receiving.specs.Receive.{receiveOf, receiveBy, receiveAt, goesOn, land, settled, Makes};
-use concluding::Received;
 use mctp::Cookie;
 use mctp::Error;
 use mctp::Header;
@@ -21,9 +23,17 @@ use mctp::HeaderRead;
 use mctp::Key;
 use reassemble::Entry;
 use reassemble::Gate;
+use reassemble::Outcome;
 use slot::Reassembler;
+use slot::ReceiveHandle;
 use state::Progress;
 use state::Sizes;
+
+pub enum Received {
+    More,
+    Message(ReceiveHandle),
+    Refused(Error),
+}
 
 // Receives a packet.
 pub fn receive(state: &mut [u8], sizes: Sizes, pool: &mut [u8], packet: &[u8]) -> Received
@@ -46,7 +56,7 @@ fn receive_bad(state: &mut [u8], sizes: Sizes, packet: &[u8]) -> Received
 {
     let empty = slot_walks::find_empty(state, sizes);
     if empty < sizes.slots {
-        walks::tick(state, sizes);
+        state::tick(state, sizes);
         return Received::Refused(Error::InvalidInput);
     }
     Received::Refused(Error::NoSpace)
@@ -126,7 +136,7 @@ fn carry(
     ensures { λ r. ⌜ Makes sizes (land (sizes .body) i (stackOf sizes (now (state .entry))) h (now (packet .entry)) (Pass (slotAt i (stackOf sizes (now (state .entry)))))) r (now (state .entry)) (now (state .exit)) (now (pool .entry)) (now (pool .exit)) ⌝ }
 {
     let n = packet.len() - 4;
-    walks::tick(state, sizes);
+    state::tick(state, sizes);
     let seq = (h.seq % 4 + 1) % 4;
     let len = p.len + n;
     let next = Progress { seq: seq, len: len };
@@ -149,7 +159,7 @@ fn open(
     ensures { λ r. ⌜ Makes sizes (receiveAt (sizes .body) i (stackOf sizes (now (state .entry))) (now (packet .entry)) (Good h)) r (now (state .entry)) (now (state .exit)) (now (pool .entry)) (now (pool .exit)) ⌝ }
 {
     let gate = gate_at(state, sizes, h);
-    walks::tick(state, sizes);
+    state::tick(state, sizes);
     match gate {
         Gate::Shut(err) => Received::Refused(err),
         Gate::Pass(s) => enter(state, sizes, pool, packet, h, i, s),
@@ -199,8 +209,8 @@ fn enter(
     requires { ⌜ Kept sizes (now state) × (h .key .tag .0 < 8) × (h .seq < 4) × (4 ≤ length (now packet)) × (sizes .body * sizes .slots ≤ length (now pool)) × (i < sizes .slots) × SlotOk (sizes .body) s ⌝ }
     ensures { λ r. ⌜ Makes sizes (land (sizes .body) i (stackOf sizes (now (state .entry))) h (now (packet .entry)) (Pass s)) r (now (state .entry)) (now (state .exit)) (now (pool .entry)) (now (pool .exit)) ⌝ }
 {
-    let stamp = walks::tick(state, sizes);
-    let issue = concluding::next_issue(state::issue_at(state, sizes));
+    let stamp = state::tick(state, sizes);
+    let issue = slot::next_issue(state::issue_at(state, sizes));
     let e = reassemble::receive(s, h, packet, stamp, issue, sizes.body);
     settle(state, sizes, pool, packet, h.key, i, e)
 }
@@ -221,9 +231,42 @@ fn settle(
     let slot = e.slot;
     state::put_slot(state, sizes, i, slot);
     let outcome = e.outcome;
-    let said = concluding::conclude(state, sizes, key, i, outcome);
+    let said = conclude(state, sizes, key, i, outcome);
     let at = sizes.body * i + e.at;
     let from = e.from;
     copying::copy(&mut pool[at..], &packet[from..]);
     said
+}
+
+// ---- the end of a receive
+
+// A reply that is whole ends its flow.
+fn close(state: &mut [u8], sizes: Sizes, key: Key)
+    requires { ⌜ Kept sizes (now state) ⌝ }
+    ensures { λ _. ⌜ Becomes sizes (now (state .entry)) (now (state .exit)) (reflows (flowsAfter Whole key (stackOf sizes (now (state .entry)) .flows)) (stackOf sizes (now (state .entry)))) ⌝ }
+{
+    if key.owner {
+        return;
+    }
+    flow_walks::remove_flow(state, sizes, key.source, key.tag);
+}
+
+// What is said of slot i's packet, and with a whole message its handle's number and its flow's end.
+pub fn conclude(state: &mut [u8], sizes: Sizes, key: Key, i: usize, outcome: Outcome) -> Received
+    requires { ⌜ Kept sizes (now state) ⌝ }
+    ensures { λ r. ⌜ (r ≡ saidOf outcome i (nextIssue (stackOf sizes (now (state .entry)) .head .issue))) × Becomes sizes (now (state .entry)) (now (state .exit)) (concluded outcome key (stackOf sizes (now (state .entry)))) ⌝ }
+{
+    match outcome {
+        Outcome::More => Received::More,
+        Outcome::Whole => {
+            let issue = slot::next_issue(state::issue_at(state, sizes));
+            state::put_issue(state, sizes, issue);
+            close(state, sizes, key);
+            Received::Message(ReceiveHandle {
+                index: i,
+                issue: issue,
+            })
+        }
+        Outcome::Freed(err) => Received::Refused(err),
+    }
 }

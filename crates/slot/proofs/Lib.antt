@@ -1,3 +1,4 @@
 -- The laws that callers cite.
 pub mod States
 pub mod Searches
+pub mod HandleLaws

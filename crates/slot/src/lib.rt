@@ -1,8 +1,9 @@
 // A slot: a record by value. Its states, what it answers to, what a handle and time do to it, after the Rust's `Reassembler` in src/reassemble.rs.
-// Definitions: specs/Slot.antt; which slot of a list: specs/Search.antt.
+// And the handle that goes out with a message. Definitions: specs/Slot.antt; which slot of a list: specs/Search.antt; the handle: specs/Handle.antt.
 // Leans on `mctp` for the key, on `stamp` for time.
 ghost use mathlib.Core.Path.{_≡_};
 ghost use mathlib.Core.Bool.{false};
+ghost use Rattle.slot.specs.Handle.{nextIssue};
 ghost use Rattle.slot.specs.Slot.{blankSlot, stateNo, isEmpty, isDone, handleIs, handleTaken, collects, isReply, keptUnder, slotTimeout, restated, recookied};
 use mctp::Cookie;
 use mctp::Eid;
@@ -17,6 +18,22 @@ use stamp::Timeout;
 pub const MAX_PAYLOAD: usize = 1032;
 
 pub const REASSEMBLY_EXPIRY_TIMEOUT: u32 = 6000;
+
+// A slot's index, and the number under which its handle went out.
+pub struct ReceiveHandle {
+    pub index: usize,
+    pub issue: u64,
+}
+
+// The number of the next handle that goes out.
+pub fn next_issue(issue: u64) -> u64
+    ensures { λ r. ⌜ r ≡ nextIssue issue ⌝ }
+{
+    if issue < 18446744073709551615 {
+        return issue + 1;
+    }
+    issue
+}
 
 // Empty, collecting, or done: with no handle out, or with one of that issue number.
 pub enum State {

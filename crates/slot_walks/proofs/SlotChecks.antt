@@ -13,10 +13,9 @@ use Rattle.slot.specs.declared.Reassembler.{Reassembler}
 use Rattle.slot.specs.Slot.{blankSlot, isReply, handleTaken}
 use Rattle.state.specs.Slot.{SlotOk}
 use Rattle.state.specs.declared.Sizes.{Sizes}
-use Rattle.state.specs.Stack.{Kept, Becomes, stackOf, slotAt, reslot}
+use Rattle.state.specs.Stack.{Kept, Becomes, stackOf, slotAt, reslot, reslots}
 use Rattle.slot_walks.specs.SlotWalks.{swept, blocked}
-use Rattle.walks.specs.Walks.{reslots}
-use Rattle.walks.proofs.PartLoops.{slotPart, Walked, walk-start, walk-next, walk-done, walk-stop, drop-here, drop-next, drop-end}
+use Rattle.state.proofs.PartLoops.{slotPart, Walked, walk-start, walk-next, walk-done, walk-stop, drop-here, drop-next, drop-end}
 
 pub blank-ok : (B : ℕ) → SlotOk B blankSlot
 blank-ok B = record {

@@ -1,6 +1,6 @@
 // Walks over the slots of a state kept in bytes: which slot collects, which is empty, the earliest message, a check of time, a cancel's sweep.
-// Each touches only what it needs. Definitions: specs/SlotWalks.antt, and those of `slot` and `walks`.
-// Leans on `state` for the bytes, on `slot` for one slot's part, on `walks` for the check.
+// Each touches only what it needs. Definitions: specs/SlotWalks.antt, and those of `slot` and `state`.
+// Leans on `state` for the bytes, on `slot` for one slot's part, on `state` for the check.
 ghost use mathlib.Core.Path.{_≡_};
 ghost use mathlib.Core.List.{map, _∷_, []};
 ghost use Prim.Native.Nat.{_+_, _≤_, _<_};
@@ -9,16 +9,17 @@ ghost use Rattle.octets.specs.Find.{find};
 ghost use Rattle.slot.specs.Slot.{blankSlot, isEmpty, collects, keptUnder, listed, slotTimeout, fadedSlot};
 ghost use Rattle.slot.specs.Search.{earliest};
 ghost use Rattle.state.specs.Slot.{wordOf};
-ghost use Rattle.state.specs.Stack.{Kept, Becomes, stackOf, slotAt, reslot};
-ghost use Rattle.walks.specs.Walks.{reslots, checkOf, slotTimes};
+ghost use Rattle.state.specs.Stack.{Kept, Becomes, stackOf, slotAt, reslot, reslots};
+ghost use Rattle.stamp.specs.Checks.{checkOf};
+ghost use Rattle.state.specs.Times.{slotTimes};
 ghost use Rattle.slot_walks.specs.SlotWalks.{swept, blocked, hasWord, betterOf, chosen};
 use mctp::Cookie;
 use mctp::Eid;
 use mctp::Key;
 use mctp::TagValue;
 use slot::Reassembler;
+use stamp::Check;
 use state::Sizes;
-use walks::Check;
 
 // A collecting slot's state and key as one number.
 fn word_of(key: Key) -> u32

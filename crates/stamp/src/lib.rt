@@ -1,7 +1,9 @@
 // A clock and a counter that order events, after the Rust's `EventStamp`.
-// Age, what is left of a timeout and expiry are told from the clock alone. Definitions: specs/Stamp.antt.
+// Age, what is left of a timeout and expiry are told from the clock alone. Definitions: specs/Stamp.antt, specs/Checks.antt.
 // Leans on `octets` for `pick` alone.
 ghost use mathlib.Core.Path.{_≡_};
+ghost use mathlib.Core.List.{_∷_, []};
+ghost use Rattle.stamp.specs.Checks.{checkOf};
 ghost use Rattle.stamp.specs.Stamp.{next, clocked, earlier, timeoutOf, isExpired, soonerOf};
 ghost use Prim.Native.Nat.{_≤_, min};
 
@@ -101,5 +103,31 @@ impl EventStamp {
             return Timeout::Expired;
         }
         Timeout::Left((timeout as u64 - age) as u32)
+    }
+}
+
+// What a check of time found so far: the least remaining time, and whether anything expired.
+pub struct Check {
+    pub least: u32,
+    pub expired: bool,
+}
+
+impl Check {
+    // The same with one time more: the sooner of the two, and expired where either is.
+    pub fn noted(self, t: Timeout) -> Check
+        ensures { λ r. ⌜ r ≡ checkOf (t ∷ []) self ⌝ }
+    {
+        let least = t.sooner(self.least);
+        let expired = t.is_expired();
+        if expired {
+            return Check {
+                least: least,
+                expired: true,
+            };
+        }
+        Check {
+            least: least,
+            expired: self.expired,
+        }
     }
 }

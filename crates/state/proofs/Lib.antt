@@ -6,3 +6,5 @@ pub mod Words
 pub mod Fresh
 pub mod Steps
 pub mod SizeLaws
+pub mod PartLoops
+pub mod Cookies

@@ -7,6 +7,8 @@ use mathlib.Core.List.{List, _++_}
 use lib.ListN.{length, getD, set, drop}
 use Rattle.octets.specs.Bytes.{part}
 use Rattle.octets.specs.Region.{region, Holds, Regular, bytes}
+use Rattle.stamp.specs.declared.EventStamp.{EventStamp}
+use Rattle.stamp.specs.Stamp.{next}
 use Rattle.flows.specs.declared.Flow.{Flow}
 use Rattle.flows.specs.Codec.{flowCodec}
 use Rattle.flows.specs.Table.{noFlow}
@@ -15,7 +17,7 @@ use Rattle.slot.specs.Slot.{blankSlot}
 use Rattle.state.specs.declared.Sizes.{Sizes}
 use Rattle.state.specs.declared.Head.{Head}
 use Rattle.state.specs.Layout.{headWidth, flowCount, flowsAt, slotsAt, size, SizesOk}
-use Rattle.state.specs.Head.{headCodec, headBytes, headOf}
+use Rattle.state.specs.Head.{headCodec, headBytes, headOf, renowed}
 use Rattle.state.specs.Slot.{slotCodec}
 
 pub record Stack : Type 0 where
@@ -64,3 +66,17 @@ slotAt i st = getD (st .slots) i blankSlot
 
 abbrev pub flowAt : ℕ → Stack → Flow
 flowAt i st = getD (st .flows) i noFlow
+
+-- the stack with another stamp of the last event
+abbrev pub renow : EventStamp → Stack → Stack
+renow now st = rehead (renowed now (st .head)) st
+
+-- one event is counted
+abbrev pub ticked : Stack → Stack
+ticked st = renow (next (st .head .now)) st
+
+abbrev pub reslots : List Reassembler → Stack → Stack
+reslots slots st = record { head = st .head; flows = st .flows; slots = slots }
+
+abbrev pub reflows : List Flow → Stack → Stack
+reflows flows st = record { head = st .head; flows = flows; slots = st .slots }

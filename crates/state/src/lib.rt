@@ -9,7 +9,8 @@ ghost use Rattle.slot.specs.Slot.{stateNo};
 ghost use Rattle.flows.specs.Codec.{FlowOk, flowWord};
 ghost use Rattle.state.specs.Head.{headOf, headBytes, HeadOk, headWith, reowned, renowed, recounted, replanned, retagged, resequenced, reissued};
 ghost use Rattle.state.specs.Slot.{issueNo, stateFrom, ownerTag, slotOf, slotBytes, leadRow, restRow, progressRow, SlotOk, ProgressOk, progress, progressOf, keyWord};
-ghost use Rattle.state.specs.Stack.{Kept, Becomes, stackOf, slotAt, flowAt, reslot, reflow, rehead};
+ghost use Rattle.stamp.specs.Stamp.{next};
+ghost use Rattle.state.specs.Stack.{ticked, Kept, Becomes, stackOf, slotAt, flowAt, reslot, reflow, rehead};
 use flows::Flow;
 use mctp::Cookie;
 use mctp::Eid;
@@ -320,6 +321,16 @@ pub fn put_counter(state: &mut [u8], sizes: Sizes, counter: u32)
     ensures { λ _. ⌜ Becomes sizes (now (state .entry)) (now (state .exit)) (rehead (recounted counter (stackOf sizes (now (state .entry)) .head)) (stackOf sizes (now (state .entry)))) ⌝ }
 {
     put4(&mut state[0..HEAD_WIDTH], 4, counter);
+}
+
+// Counts one event, and gives its stamp.
+pub fn tick(state: &mut [u8], sizes: Sizes) -> EventStamp
+    requires { ⌜ Kept sizes (now state) ⌝ }
+    ensures { λ r. ⌜ (r ≡ next (stackOf sizes (now (state .entry)) .head .now)) × Becomes sizes (now (state .entry)) (now (state .exit)) (ticked (stackOf sizes (now (state .entry)))) ⌝ }
+{
+    let stamp = now_at(state, sizes).increment();
+    put_counter(state, sizes, stamp.counter);
+    stamp
 }
 
 pub fn mtu_at(state: &[u8], sizes: Sizes) -> usize

@@ -29,9 +29,10 @@ use Rattle.reassemble.specs.declared.Gate.the-variants.{Shut, Pass}
 use Rattle.reassemble.specs.Enter.{enter, appended}
 use Rattle.fragment.specs.Cutting.{bodyIn, PacketIs, InTurn, joined, kindIn, Carries}
 use Rattle.state.specs.Stack.{Stack, slotAt}
-use Rattle.concluding.specs.declared.ReceiveHandle.{ReceiveHandle}
-use Rattle.concluding.specs.declared.Received.the-variants.{Message as Told}
-use Rattle.concluding.specs.Conclude.{nextIssue, saidOf, handleWords}
+use Rattle.slot.specs.declared.ReceiveHandle.{ReceiveHandle}
+use Rattle.receiving.specs.declared.Received.the-variants.{Message as Told}
+use Rattle.slot.specs.Handle.{nextIssue, handleWords}
+use Rattle.receiving.specs.Conclude.{saidOf}
 use Rattle.receiving.specs.Receive.{Receipt, land, opening, gateOf, receiveAt, receiveBy, receiveOf}
 use Rattle.promises.specs.Calls.{Call, receive, elsewhere, update, startSend, cancelFlow, getDeferred, getDeferredByCookie, fetchMessage, finishedReceive, returnHandle, setCookie, setEid, eid, isLocalDest, freeTags, World, step, steps, receipt, performed, hasKey}
 use Rattle.promises.specs.Delivery.{Message, messageAt, allOf}

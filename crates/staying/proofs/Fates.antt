@@ -32,15 +32,14 @@ use Rattle.reassemble.specs.Enter.{appended}
 use Rattle.flows.specs.declared.Flow.{Flow}
 use Rattle.flows.specs.Table.{removed}
 use Rattle.fragment.specs.Cutting.{bodyIn}
-use Rattle.state.specs.Stack.{Stack, slotAt}
+use Rattle.state.specs.Stack.{Stack, slotAt, renow}
 use Rattle.slot_walks.specs.SlotWalks.{swept, blocked}
-use Rattle.walks.specs.Walks.{renow}
-use Rattle.concluding.specs.declared.ReceiveHandle.{ReceiveHandle}
-use Rattle.concluding.specs.Conclude.{nextIssue}
+use Rattle.slot.specs.declared.ReceiveHandle.{ReceiveHandle}
+use Rattle.slot.specs.Handle.{nextIssue}
 use Rattle.receiving.specs.Receive.{Receipt}
-use Rattle.handling.specs.declared.Done.the-variants.{Done as Well}
-use Rattle.handling.specs.Handles as handles
-use Rattle.handling.specs.Handles.{Lookup, handled, takeOf, bySourceOf}
+use Rattle.handles.specs.declared.Done.the-variants.{Done as Well}
+use Rattle.handles.specs.Handles as handles
+use Rattle.handles.specs.Handles.{Lookup, handled, takeOf, bySourceOf}
 use Rattle.sending.specs.Sends.{startSendOf}
 use Rattle.updating.specs.Update.{Update, checked, updateOf}
 use Rattle.estack.specs.Basics.{eidSet, cancelOf}

@@ -25,12 +25,12 @@ use Rattle.slot.specs.Search.{earliest}
 use Rattle.state.specs.declared.Sizes.{Sizes}
 use Rattle.state.specs.Stack.{Stack, Kept, stackOf, slotAt}
 use Rattle.slot_walks.specs.SlotWalks.{swept, blocked}
-use Rattle.concluding.specs.declared.ReceiveHandle.{ReceiveHandle}
-use Rattle.concluding.specs.Conclude.{nextIssue}
-use Rattle.handling.specs.declared.Deferred.{Deferred}
-use Rattle.handling.specs.declared.Deferred.the-variants.{Found, Nothing}
-use Rattle.handling.specs.Handles as handles
-use Rattle.handling.specs.Handles.{Lookup, isGood, messageIn, takeOf, bySourceOf}
+use Rattle.slot.specs.declared.ReceiveHandle.{ReceiveHandle}
+use Rattle.slot.specs.Handle.{nextIssue}
+use Rattle.handles.specs.declared.Deferred.{Deferred}
+use Rattle.handles.specs.declared.Deferred.the-variants.{Found, Nothing}
+use Rattle.handles.specs.Handles as handles
+use Rattle.handles.specs.Handles.{Lookup, isGood, messageIn, takeOf, bySourceOf}
 use Rattle.updating.specs.Update.{checked, updateOf}
 use Rattle.estack.specs.Basics.{cancelOf}
 use Rattle.promises.specs.Calls.{Call, receive, elsewhere, update, startSend, cancelFlow, getDeferred, getDeferredByCookie, fetchMessage, finishedReceive, returnHandle, setCookie, setEid, eid, isLocalDest, freeTags, World, step, steps}

@@ -21,12 +21,12 @@ use Rattle.slot.specs.Search.{slotFor, earliest}
 use Rattle.reassemble.specs.Enter.{isLocal, opening, gate, gateEmpty, gateReply, enter, append}
 use Rattle.state.specs.Stack.{slotAt}
 use Rattle.slot_walks.specs.SlotWalks.{swept, blocked}
-use Rattle.walks.specs.Walks.{leastLeft}
+use Rattle.stamp.specs.Checks.{leastLeft}
 use Rattle.fragment.specs.Cutting.{Carries}
-use Rattle.concluding.specs.declared.ReceiveHandle.{ReceiveHandle}
-use Rattle.concluding.specs.Conclude.{nextIssue}
+use Rattle.slot.specs.declared.ReceiveHandle.{ReceiveHandle}
+use Rattle.slot.specs.Handle.{nextIssue}
 use Rattle.receiving.specs.Receive.{land, receiveAt, receiveBy, receiveOf}
-use Rattle.handling.specs.Handles.{isGood, handled, takeOf, bySourceOf}
+use Rattle.handles.specs.Handles.{isGood, handled, takeOf, bySourceOf}
 use Rattle.sending.specs.declared.Send.{Send}
 use Rattle.sending.specs.declared.SendTag.the-variants.{Fresh}
 use Rattle.sending.specs.declared.SendMtu.the-variants.{Own}

@@ -38,18 +38,18 @@ use Rattle.reassemble.specs.declared.Gate.the-variants.{Shut, Pass}
 use Rattle.reassemble.specs.Enter.{enter}
 use Rattle.state.specs.declared.Sizes.{Sizes}
 use Rattle.state.specs.Layout.{flowCount}
-use Rattle.state.specs.Stack.{Stack, slotAt}
-use Rattle.walks.specs.Walks.{ticked}
+use Rattle.state.specs.Stack.{Stack, slotAt, ticked}
 use Rattle.flow_walks.specs.FlowWalks.{tableOf}
-use Rattle.concluding.specs.declared.ReceiveHandle.{ReceiveHandle}
-use Rattle.concluding.specs.declared.Received.{Received}
-use Rattle.concluding.specs.declared.Received.the-variants.{More, Message as Told, Refused}
-use Rattle.concluding.specs.Conclude.{nextIssue, saidOf, flowsAfter, handleWords}
+use Rattle.slot.specs.declared.ReceiveHandle.{ReceiveHandle}
+use Rattle.receiving.specs.declared.Received.{Received}
+use Rattle.receiving.specs.declared.Received.the-variants.{More, Message as Told, Refused}
+use Rattle.slot.specs.Handle.{nextIssue, handleWords}
+use Rattle.receiving.specs.Conclude.{saidOf, flowsAfter}
 use Rattle.receiving.specs.Receive.{Receipt, settled, land, opening, gateOf, receiveAt, receiveBy, receiveOf}
-use Rattle.handling.specs.declared.Done as answers
-use Rattle.handling.specs.declared.Done.the-variants.{Done as Well, Refused as Unwell}
-use Rattle.handling.specs.Handles as handles
-use Rattle.handling.specs.Handles.{Lookup, doneAs, handled, takeOf, bySourceOf}
+use Rattle.handles.specs.declared.Done as answers
+use Rattle.handles.specs.declared.Done.the-variants.{Done as Well, Refused as Unwell}
+use Rattle.handles.specs.Handles as handles
+use Rattle.handles.specs.Handles.{Lookup, doneAs, handled, takeOf, bySourceOf}
 use Rattle.sending.specs.declared.Send.{Send}
 use Rattle.sending.specs.declared.Carried.{Carried}
 use Rattle.sending.specs.declared.Carried.the-variants.{Under, Refused as Untagged}

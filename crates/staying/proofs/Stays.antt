@@ -21,15 +21,15 @@ use Rattle.fragment.specs.Cutting.{bodyIn}
 use Rattle.state.specs.declared.Sizes.{Sizes}
 use Rattle.state.specs.Stack.{Stack, Kept, stackOf, slotAt}
 use Rattle.state.proofs.StackLaws.{slot-ok}
-use Rattle.concluding.specs.declared.ReceiveHandle.{ReceiveHandle}
-use Rattle.concluding.specs.declared.Received.the-variants.{Message as Told}
-use Rattle.concluding.specs.Conclude.{handleWords}
+use Rattle.slot.specs.declared.ReceiveHandle.{ReceiveHandle}
+use Rattle.receiving.specs.declared.Received.the-variants.{Message as Told}
+use Rattle.slot.specs.Handle.{handleWords}
 use Rattle.receiving.specs.Receive.{Receipt}
-use Rattle.handling.specs.declared.Message.{Message as Facts}
-use Rattle.handling.specs.declared.Fetched.{Fetched as Said}
-use Rattle.handling.specs.declared.Fetched.the-variants.{Message as Give, Refused as Unfetched}
-use Rattle.handling.specs.Handles as handles
-use Rattle.handling.specs.Handles.{isGood, handled, cookieOf, messageIn, fetchOf}
+use Rattle.handles.specs.declared.Message.{Message as Facts}
+use Rattle.handles.specs.declared.Fetched.{Fetched as Said}
+use Rattle.handles.specs.declared.Fetched.the-variants.{Message as Give, Refused as Unfetched}
+use Rattle.handles.specs.Handles as handles
+use Rattle.handles.specs.Handles.{isGood, handled, cookieOf, messageIn, fetchOf}
 use Rattle.estack.specs.Basics.{freshStack}
 use Rattle.promises.specs.Calls.{Call, receive, setCookie, World, step, steps, receipt, performed}
 use Rattle.promises.specs.Delivery.{Message, readFrom, messageAt, Hands, allOf}

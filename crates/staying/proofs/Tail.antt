@@ -24,8 +24,9 @@ use Rattle.state.specs.Stack.{Stack, slotAt}
 use Rattle.receiving.specs.Receive.{Receipt, receiveOf}
 use Rattle.promises.specs.Calls.{Call, receive, World, step, steps, receipt, performed}
 use Rattle.mctp.specs.Answer.{Answer, gives, answerNo}
-use Rattle.concluding.specs.declared.ReceiveHandle.{ReceiveHandle}
-use Rattle.concluding.specs.Conclude.{handleWords, receivedAs}
+use Rattle.slot.specs.declared.ReceiveHandle.{ReceiveHandle}
+use Rattle.slot.specs.Handle.{handleWords}
+use Rattle.receiving.specs.Conclude.{receivedAs}
 use Rattle.promises.specs.History.{takes}
 use Rattle.promises.proofs.Slots.{parts}
 use Rattle.promises.proofs.Pool.{slot-le, bodyAt, pool-length, body-apart}

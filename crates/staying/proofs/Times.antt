@@ -19,7 +19,7 @@ use Rattle.slot.specs.Slot.{blankSlot, isDone, isReply, keptUnder, listed}
 use Rattle.slot.specs.Search.{earliest}
 use Rattle.state.specs.declared.Sizes.{Sizes}
 use Rattle.state.specs.Stack.{Stack, slotAt}
-use Rattle.handling.specs.Handles.{Lookup, takeOf, bySourceOf}
+use Rattle.handles.specs.Handles.{Lookup, takeOf, bySourceOf}
 use Rattle.estack.specs.Basics.{freshStack}
 use Rattle.promises.specs.Calls.{Call, receive, elsewhere, update, startSend, cancelFlow, getDeferred, getDeferredByCookie, fetchMessage, finishedReceive, returnHandle, setCookie, setEid, eid, isLocalDest, freeTags, World, step, steps}
 use Rattle.promises.specs.Delivery.{messageAt, allOf}

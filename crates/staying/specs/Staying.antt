@@ -24,12 +24,12 @@ use Rattle.slot.specs.Slot.{isDone, handleTaken, isReply, keptUnder, listed, sl
 use Rattle.fragment.specs.Cutting.{bodyIn}
 use Rattle.state.specs.Stack.{Stack, slotAt}
 use Rattle.slot_walks.specs.SlotWalks.{blocked}
-use Rattle.concluding.specs.declared.ReceiveHandle.{ReceiveHandle}
-use Rattle.handling.specs.declared.Message.{Message as Facts}
-use Rattle.handling.specs.declared.Fetched.the-variants.{Message as Fetch}
-use Rattle.handling.specs.declared.Deferred.{Deferred}
-use Rattle.handling.specs.declared.Deferred.the-variants.{Found, Nothing}
-use Rattle.handling.specs.Handles.{fetchOf, bySourceOf, byCookieOf}
+use Rattle.slot.specs.declared.ReceiveHandle.{ReceiveHandle}
+use Rattle.handles.specs.declared.Message.{Message as Facts}
+use Rattle.handles.specs.declared.Fetched.the-variants.{Message as Fetch}
+use Rattle.handles.specs.declared.Deferred.{Deferred}
+use Rattle.handles.specs.declared.Deferred.the-variants.{Found, Nothing}
+use Rattle.handles.specs.Handles.{fetchOf, bySourceOf, byCookieOf}
 use Rattle.promises.specs.Calls.{Call, receive, elsewhere, update, startSend, cancelFlow, getDeferred, getDeferredByCookie, fetchMessage, finishedReceive, returnHandle, setCookie, setEid, eid, isLocalDest, freeTags, World, step, receipt}
 use Rattle.promises.specs.Delivery.{Message, readFrom}
 use Rattle.promises.specs.History.{takes}

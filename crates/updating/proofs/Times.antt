@@ -14,7 +14,8 @@ use Rattle.stamp.specs.declared.Timeout.the-variants.{Untimed, Expired, Left}
 use Rattle.stamp.specs.Stamp.{soonerOf}
 use Rattle.state.specs.Head.{HeadOk}
 use Rattle.state.specs.Stack.{Stack}
-use Rattle.walks.specs.Walks.{leastLeft, slotTimes, flowTimes}
+use Rattle.stamp.specs.Checks.{leastLeft}
+use Rattle.state.specs.Times.{slotTimes, flowTimes}
 use Rattle.updating.specs.declared.Updated.{Updated}
 use Rattle.updating.specs.declared.Updated.the-variants.{Next, Refused}
 use Rattle.updating.specs.Update.{Update, interval, leastOf, checked, updateOf}

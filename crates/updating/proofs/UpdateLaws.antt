@@ -13,10 +13,11 @@ use Rattle.slot.specs.Slot.{fadedSlot}
 use Rattle.state.specs.declared.Head.{Head}
 use Rattle.state.specs.declared.Sizes.{Sizes}
 use Rattle.state.specs.Head.{renowed, replanned}
-use Rattle.state.specs.Stack.{Stack, Becomes, stackOf, rehead}
+use Rattle.state.specs.Stack.{Stack, Becomes, stackOf, rehead, renow, reslots, reflows}
 use Rattle.state.proofs.StackLaws.{andThen}
-use Rattle.walks.specs.declared.Check.{Check}
-use Rattle.walks.specs.Walks.{renow, reslots, reflows, checkOf, slotTimes, flowTimes}
+use Rattle.stamp.specs.declared.Check.{Check}
+use Rattle.stamp.specs.Checks.{checkOf}
+use Rattle.state.specs.Times.{slotTimes, flowTimes}
 use Rattle.updating.specs.declared.Updated.the-variants.{Next}
 use Rattle.updating.specs.Update.{interval, leastOf, expires, plannedAt, checked}
 use Rattle.state.proofs.Steps.{Met}

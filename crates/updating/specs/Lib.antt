@@ -1,4 +1,4 @@
 -- The definitions that the contracts of `updating` cite.
 -- Update: document 01, `update`.
--- Leans on `state` for the clock, on `walks` for what a check finds.
+-- Leans on `state` for the clock, on `state` for what a check finds.
 pub mod Update

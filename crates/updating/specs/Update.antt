@@ -1,6 +1,6 @@
 -- Document 01, `update`: clock below the last: InvalidInput; otherwise the clock is taken; below the planned check: the gap and false; else slots and flows
 -- expire, and the least of 100 and every remaining time is told and planned. The planned check stops at 2^64 - 1.
--- Leans on `walks` for what a check finds, on `flows` and `slot` for what expires.
+-- Leans on `state` for what a check finds, on `flows` and `slot` for what expires.
 use Prim.Native.Nat.{ℕ, _+_, _-_, min}
 use mathlib.Core.Bool.{Bool, true, false}
 use mathlib.Core.List.{[], _∷_, map}
@@ -13,8 +13,9 @@ use Rattle.stamp.specs.Stamp.{clocked}
 use Rattle.flows.specs.Table.{fadedFlow}
 use Rattle.slot.specs.Slot.{fadedSlot}
 use Rattle.state.specs.Head.{replanned}
-use Rattle.state.specs.Stack.{Stack}
-use Rattle.walks.specs.Walks.{renow, leastLeft, anyExpired, slotTimes, flowTimes}
+use Rattle.state.specs.Stack.{Stack, renow}
+use Rattle.stamp.specs.Checks.{leastLeft, anyExpired}
+use Rattle.state.specs.Times.{slotTimes, flowTimes}
 use Rattle.updating.specs.declared.Updated.{Updated}
 use Rattle.updating.specs.declared.Updated.the-variants.{Next, Refused}
 

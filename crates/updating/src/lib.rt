@@ -7,10 +7,10 @@ ghost use Rattle.state.specs.Head.{renowed, replanned};
 ghost use Rattle.state.specs.Stack.{Kept, Becomes, stackOf, rehead};
 ghost use Rattle.updating.specs.Update.{updateOf, checked, plannedAt};
 use mctp::Error;
+use stamp::Check;
 use stamp::EventStamp;
 use state::Head;
 use state::Sizes;
-use walks::Check;
 
 // How many milliseconds may pass until the next update, and whether something expired.
 pub enum Updated {

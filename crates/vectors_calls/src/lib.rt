@@ -7,7 +7,7 @@ ghost use Prim.Native.Nat.{_≤_};
 ghost use lib.ListN.{length};
 ghost use Rattle.state.specs.Stack.{Kept};
 ghost use Rattle.board.specs.Board.{board};
-use words::narrow;
+use rows::narrow;
 
 // Half a record: what is asked, a call's number with its numbers and bytes; or in the same form what is answered. The numbers and bytes lie beside it.
 pub struct Half {

@@ -6,8 +6,7 @@ use borrow.Author.Needs.{needs}
 use Rattle.octets.specs.Pick.{pick}
 use Rattle.flows.specs.Table.{removed}
 use Rattle.state.proofs.StackLaws.{stays, andThen}
-use Rattle.state.specs.Stack.{Stack, stackOf}
-use Rattle.walks.specs.Walks.{reslots, reflows}
+use Rattle.state.specs.Stack.{Stack, stackOf, reslots, reflows}
 use Rattle.slot_walks.specs.SlotWalks.{swept}
 use Rattle.estack.specs.Basics.{cancelOf}
 use Rattle.estack.proofs.cancel_flow.Statement.{statement}

@@ -3,9 +3,8 @@ use Rattle.octets.specs.Pick.{pick-true, pick-false}
 use Rattle.stamp.specs.declared.EventStamp.{EventStamp}
 use Rattle.stamp.specs.Stamp.{next}
 use Rattle.flows.specs.Table.{counted}
-use Rattle.state.specs.Stack.{stackOf}
+use Rattle.state.specs.Stack.{stackOf, renow}
 use Rattle.state.proofs.StackLaws.{stays}
-use Rattle.walks.specs.Walks.{renow}
 use Rattle.state.proofs.Steps.{becomes-as}
 use denote.Ref.{now}
 use mathlib.Core.Path.{_≡_, sym, ap, _∙_}

@@ -3,7 +3,7 @@ use mathlib.Core.Path.{sym, subst}
 use Rattle.flows.specs.declared.Flow.{Flow}
 use Rattle.flows.specs.Codec.{FlowOk}
 use Rattle.flows.proofs.TableLaws.{no-flow-ok}
-use Rattle.walks.proofs.PartLoops.{timedFlows, expire-gone, expire-stays}
+use Rattle.state.proofs.PartLoops.{timedFlows, expire-gone, expire-stays}
 use borrow.Author.Needs.{needs}
 use Rattle.flow_walks.proofs.expire_flow.Statement.{statement}
 use Rattle.flow_walks.proofs.expire_flow.Tie as tie

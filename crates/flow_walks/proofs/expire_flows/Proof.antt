@@ -2,7 +2,7 @@
 use Prim.Native.Nat.{_-_}
 use denote.Ref.{now}
 use Rattle.state.specs.Layout.{flowCount}
-use Rattle.walks.proofs.PartLoops.{timedFlows, Checked, check-start, check-next, check-done, check-length}
+use Rattle.state.proofs.PartLoops.{timedFlows, Checked, check-start, check-next, check-done, check-length}
 use borrow.Author.Needs.{needs}
 use Rattle.flow_walks.proofs.expire_flows.Statement.{statement}
 use Rattle.flow_walks.proofs.expire_flows.Tie as tie

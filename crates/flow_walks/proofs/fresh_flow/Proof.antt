@@ -1,11 +1,10 @@
 -- `fresh_flow` meets its contract: the counter moves first, and the flow is inserted under the first free tag from there, if there is one.
-use Rattle.state.specs.Stack.{stackOf}
+use Rattle.state.specs.Stack.{stackOf, Stack}
 use denote.Ref.{now}
 use Rattle.mctp.specs.declared.Error.the-variants.{TagUnavailable}
 use Rattle.flows.specs.declared.Granted.the-variants.{Refused}
 use Rattle.flows.specs.Tags.{freeTagOf}
 use Rattle.flows.specs.Table.{Table, Flowed, usedTags, turned, insertFlow}
-use Rattle.state.specs.Stack.{Stack}
 use Rattle.flow_walks.specs.FlowWalks.{tableOf, retable}
 use Rattle.flow_walks.proofs.FlowSends.{sent-as, sent-then, free-small, fresh-found, fresh-none}
 use mathlib.Core.Path.{_≡_, refl, sym, ap, _∙_}

@@ -1,5 +1,5 @@
 -- `insert_flow` meets its contract: the event is counted first, and a new flow goes to the first free place, if there is one.
-use Rattle.state.specs.Stack.{stackOf}
+use Rattle.state.specs.Stack.{stackOf, Stack, reflow, renow}
 use denote.Ref.{now}
 use Rattle.octets.specs.Find.{find}
 use Rattle.stamp.specs.declared.EventStamp.{EventStamp}
@@ -9,12 +9,10 @@ use Rattle.flows.specs.declared.Granted.the-variants.{Tag, Refused}
 use Rattle.flows.specs.Codec.{FlowOk}
 use Rattle.flows.specs.Table.{isFree, newFlow, counted}
 use Rattle.flows.proofs.TableLaws.{new-ok, counted-clock, counted-counter}
-use Rattle.state.specs.Stack.{Stack, reflow}
 use Rattle.state.proofs.StackLaws.{flows-length, head-ok, andThen}
-use Rattle.walks.specs.Walks.{renow}
 use Rattle.flow_walks.specs.FlowWalks.{tableOf}
 use Rattle.state.proofs.Steps.{becomes-as}
-use Rattle.walks.proofs.Cookies.{cookie-fits}
+use Rattle.state.proofs.Cookies.{cookie-fits}
 use Rattle.flow_walks.proofs.FlowSends.{sent-as, insert-room, insert-full}
 use lib.ListN.{length}
 use mathlib.Core.Path.{refl, sym, ap, subst, _∙_}

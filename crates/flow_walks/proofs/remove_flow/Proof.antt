@@ -1,13 +1,11 @@
 -- `remove_flow` meets its contract: the place found is cleared, and past the last place there is nothing to clear.
-use Rattle.state.specs.Stack.{stackOf}
+use Rattle.state.specs.Stack.{stackOf, reflow, reflows}
 use denote.Ref.{now}
 use Rattle.flows.specs.declared.Flow.{Flow}
 use Rattle.flows.specs.Codec.{FlowOk}
 use Rattle.flows.specs.Table.{noFlow, flowPlace}
 use Rattle.flows.proofs.TableLaws.{no-flow-ok}
-use Rattle.state.specs.Stack.{reflow}
 use Rattle.state.proofs.StackLaws.{flows-length, stays}
-use Rattle.walks.specs.Walks.{reflows}
 use Rattle.state.proofs.Steps.{becomes-as}
 use lib.ListN.{length}
 use lib.Seq.{set-out}

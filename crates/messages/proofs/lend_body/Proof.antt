@@ -39,9 +39,9 @@ use denote.Triple.Table.{entered, cited}
 use denote.Triple.Walked.{says, Stays, stay-dropped, walkOf, goes-dropped, Walks, ends-at, walked, walk-meets}
 use denote.Triple.Clauses.{ensured, lasts}
 use denote.Exit.{yes}
-use Rattle.handling.specs.declared.Message.{Message}
-use Rattle.handling.proofs.Message as F
-use Rattle.handling.proofs.Message.Laws as F′
+use Rattle.handles.specs.declared.Message.{Message}
+use Rattle.handles.proofs.Message as F
+use Rattle.handles.proofs.Message.Laws as F′
 use Rattle.fragment.proofs.Walk.{also}
 use Rattle.messages.specs.Message.{bodyOf, messageOf}
 use Rattle.messages.specs.declared.MctpMessage.{MctpMessage}

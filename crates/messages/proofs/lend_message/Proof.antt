@@ -42,7 +42,7 @@ use denote.Exit.{yes}
 use Rattle.octets.specs.Bytes.{part}
 use Rattle.mctp.specs.declared.Tag.{Tag}
 use Rattle.mctp.specs.Terms.{tagUnder}
-use Rattle.handling.specs.declared.Message.{Message}
+use Rattle.handles.specs.declared.Message.{Message}
 use Rattle.fragment.proofs.Walk.{also, plainly, both}
 use Rattle.messages.specs.declared.MctpMessage.{MctpMessage}
 use Rattle.mctp.proofs.Tag.of.Symbol.{name as #mctp·tag-of}
@@ -64,8 +64,8 @@ use Rattle.mctp.proofs.MsgIC as N
 use Rattle.mctp.proofs.MsgIC.Laws as N′
 use Rattle.mctp.proofs.Cookie as K
 use Rattle.mctp.proofs.Cookie.Laws as K′
-use Rattle.handling.proofs.Message as F
-use Rattle.handling.proofs.Message.Laws as F′
+use Rattle.handles.proofs.Message as F
+use Rattle.handles.proofs.Message.Laws as F′
 use Rattle.messages.proofs.MctpMessage as T
 use Rattle.messages.proofs.MctpMessage.Laws as T′
 use Rattle.mctp.proofs.Tag.of as tag

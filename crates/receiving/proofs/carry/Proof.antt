@@ -6,10 +6,9 @@ use lib.ListN.{length}
 use denote.Ref.{now}
 use borrow.Author.Needs.{needs}
 use Rattle.state.specs.Slot.{progress}
-use Rattle.state.specs.Stack.{Stack, stackOf, slotAt, reslot}
+use Rattle.state.specs.Stack.{Stack, stackOf, slotAt, reslot, ticked}
 use Rattle.state.proofs.StackLaws.{andThen}
-use Rattle.walks.specs.Walks.{ticked}
-use Rattle.concluding.specs.declared.Received.the-variants.{More}
+use Rattle.receiving.specs.declared.Received.the-variants.{More}
 use Rattle.receiving.proofs.Entered.{in-pool, copied}
 use Rattle.receiving.proofs.Receipts.{makes-as}
 use Rattle.receiving.proofs.Middle.{goes-room, middle}

@@ -5,11 +5,10 @@ use denote.Ref.{now}
 use borrow.Author.Needs.{needs}
 use Rattle.reassemble.specs.declared.Entry.{Entry}
 use Rattle.state.specs.Slot.{SlotOk}
-use Rattle.state.specs.Stack.{Stack, stackOf}
+use Rattle.state.specs.Stack.{Stack, stackOf, ticked}
 use Rattle.state.proofs.StackLaws.{head-ok}
-use Rattle.walks.specs.Walks.{ticked}
-use Rattle.concluding.specs.Conclude.{nextIssue}
-use Rattle.concluding.proofs.Ends.{issue-fits}
+use Rattle.slot.specs.Handle.{nextIssue}
+use Rattle.slot.proofs.HandleLaws.{issue-fits}
 use Rattle.receiving.specs.Receive.{settled}
 use Rattle.receiving.proofs.Entered.{entered-ok, ticked-ok}
 use Rattle.receiving.proofs.Receipts.{makes-as, makes-then, lands}

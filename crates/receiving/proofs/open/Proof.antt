@@ -5,8 +5,7 @@ use denote.Ref.{now}
 use borrow.Author.Needs.{needs}
 use Rattle.mctp.specs.Header.{HeaderOk}
 use Rattle.reassemble.specs.declared.Gate.the-variants.{Pass}
-use Rattle.state.specs.Stack.{Stack, stackOf}
-use Rattle.walks.specs.Walks.{ticked}
+use Rattle.state.specs.Stack.{Stack, stackOf, ticked}
 use Rattle.receiving.specs.Receive.{land}
 use Rattle.receiving.proofs.Entered.{gate-ok}
 use Rattle.receiving.proofs.Receipts.{makes-as, makes-then, refusal, at-empty, shut-at}

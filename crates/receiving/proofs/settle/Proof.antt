@@ -7,7 +7,8 @@ use denote.Ref.{now}
 use borrow.Author.Needs.{needs}
 use Rattle.state.specs.Stack.{Stack, stackOf, reslot}
 use Rattle.state.proofs.StackLaws.{andThen}
-use Rattle.concluding.specs.Conclude.{nextIssue, saidOf, concluded}
+use Rattle.slot.specs.Handle.{nextIssue}
+use Rattle.receiving.specs.Conclude.{saidOf, concluded}
 use Rattle.receiving.proofs.Entered.{in-pool, copied}
 use Rattle.receiving.proofs.settle.Statement.{statement}
 use Rattle.receiving.proofs.settle.Tie as tie

@@ -3,7 +3,7 @@ use mathlib.Core.Path.{sym, subst}
 use Rattle.slot.specs.declared.Reassembler.{Reassembler}
 use Rattle.state.specs.Slot.{SlotOk}
 use Rattle.slot_walks.proofs.SlotChecks.{blank-ok}
-use Rattle.walks.proofs.PartLoops.{timedSlots, expire-gone, expire-stays}
+use Rattle.state.proofs.PartLoops.{timedSlots, expire-gone, expire-stays}
 use borrow.Author.Needs.{needs}
 use Rattle.slot_walks.proofs.expire_slot.Statement.{statement}
 use Rattle.slot_walks.proofs.expire_slot.Tie as tie

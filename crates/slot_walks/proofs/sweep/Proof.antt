@@ -2,7 +2,7 @@
 use Prim.Native.Nat.{_-_}
 use denote.Ref.{now}
 use borrow.Author.Needs.{needs}
-use Rattle.walks.proofs.PartLoops.{becomes-length}
+use Rattle.state.proofs.PartLoops.{becomes-length}
 use Rattle.slot_walks.proofs.SlotChecks.{Swept, sweep-start, sweep-stops, sweep-goes-on, sweep-ends}
 use Rattle.slot_walks.proofs.sweep.Statement.{statement}
 use Rattle.slot_walks.proofs.sweep.Tie as tie

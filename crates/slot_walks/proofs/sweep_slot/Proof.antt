@@ -5,7 +5,7 @@ use Rattle.slot.specs.declared.Reassembler.{Reassembler}
 use Rattle.slot.specs.Slot.{isReply, handleTaken}
 use Rattle.state.specs.Slot.{SlotOk}
 use Rattle.state.specs.Stack.{stackOf, slotAt}
-use Rattle.walks.proofs.PartLoops.{slotPart, stored-as, same-stored}
+use Rattle.state.proofs.PartLoops.{slotPart, stored-as, same-stored}
 use Rattle.slot_walks.proofs.SlotChecks.{blank-ok, sweptSlot, stops, frees, passes}
 use borrow.Author.Needs.{needs}
 use Rattle.slot_walks.proofs.sweep_slot.Statement.{statement}

@@ -9,10 +9,9 @@ use borrow.Author.Needs.{needs}
 use Rattle.octets.specs.Pick.{pick}
 use Rattle.stamp.specs.declared.EventStamp.{EventStamp}
 use Rattle.stamp.specs.Stamp.{clocked}
-use Rattle.state.specs.Stack.{Stack, stackOf}
+use Rattle.state.specs.Stack.{Stack, stackOf, renow}
 use Rattle.state.specs.declared.Head.{Head}
 use Rattle.state.proofs.StackLaws.{stays}
-use Rattle.walks.specs.Walks.{renow}
 use Rattle.updating.specs.Update.{checked, updateOf}
 use Rattle.updating.specs.declared.Updated.the-variants.{Next}
 use Rattle.updating.proofs.UpdateLaws.{clock-taken, clock-put}

@@ -1,9 +1,9 @@
 use borrow.Author.Needs.{needs}
 use mathlib.Core.Path.{ap, _∙_}
 use denote.Ref.{now}
-use Rattle.handling.specs.declared.Fetched.{Fetched}
+use Rattle.handles.specs.declared.Fetched.{Fetched}
 use Rattle.mctp.specs.Answer.{answerNo, rowAfter}
-use Rattle.handling.specs.Handles.{fetchedAs}
+use Rattle.handles.specs.Handles.{fetchedAs}
 use Rattle.board.proofs.calls.hyphaloom_fetch_message.Statement.{statement}
 use Rattle.board.proofs.calls.hyphaloom_fetch_message.Tie as tie
 

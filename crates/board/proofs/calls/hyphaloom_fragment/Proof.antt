@@ -7,10 +7,10 @@ use Rattle.octets.specs.Bytes.{over}
 use Rattle.fragment.specs.declared.Fragmenter.{Fragmenter}
 use Rattle.fragment.specs.Step.{Step, stepOf}
 use Rattle.fragment.proofs.Plans.{step-planned}
-use Rattle.words.specs.Words.{fragmenterOf}
+use Rattle.rows.specs.Words.{fragmenterOf}
 use Rattle.mctp.specs.Answer.{answerNo}
 use Rattle.fragment.specs.Answers.{outputAs}
-use Rattle.answers.specs.Answers.{lengthAfter, steppedAfter}
+use Rattle.rows.specs.Answers.{lengthAfter, steppedAfter}
 use Rattle.board.proofs.calls.hyphaloom_fragment.Statement.{statement}
 use Rattle.board.proofs.calls.hyphaloom_fragment.Tie as tie
 

@@ -2,10 +2,10 @@
 use mathlib.Core.Path.{_≡_, ap, _∙_}
 use denote.Ref.{now}
 use Rattle.mctp.specs.Answer.{rowAfter}
-use Rattle.handling.specs.declared.Deferred.{Deferred}
-use Rattle.handling.specs.Handles.{deferredAs}
+use Rattle.handles.specs.declared.Deferred.{Deferred}
+use Rattle.handles.specs.Handles.{deferredAs}
 use borrow.Author.Needs.{needs}
-use Rattle.words.specs.Words.{isYes, tagFrom}
+use Rattle.rows.specs.Words.{isYes, tagFrom}
 use Rattle.board.proofs.calls.hyphaloom_get_deferred.Statement.{statement}
 use Rattle.board.proofs.calls.hyphaloom_get_deferred.Tie as tie
 

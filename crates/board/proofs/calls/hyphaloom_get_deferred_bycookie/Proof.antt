@@ -2,8 +2,8 @@ use borrow.Author.Needs.{needs}
 use mathlib.Core.Path.{ap, _∙_}
 use denote.Ref.{now}
 use Rattle.mctp.specs.Answer.{rowAfter}
-use Rattle.handling.specs.declared.Deferred.{Deferred}
-use Rattle.handling.specs.Handles.{deferredAs}
+use Rattle.handles.specs.declared.Deferred.{Deferred}
+use Rattle.handles.specs.Handles.{deferredAs}
 use Rattle.board.proofs.calls.hyphaloom_get_deferred_bycookie.Statement.{statement}
 use Rattle.board.proofs.calls.hyphaloom_get_deferred_bycookie.Tie as tie
 

@@ -1,9 +1,9 @@
 use borrow.Author.Needs.{needs}
 use mathlib.Core.Path.{ap, _∙_}
 use denote.Ref.{now}
-use Rattle.concluding.specs.declared.Received.{Received}
+use Rattle.receiving.specs.declared.Received.{Received}
 use Rattle.mctp.specs.Answer.{answerNo, rowAfter}
-use Rattle.concluding.specs.Conclude.{receivedAs}
+use Rattle.receiving.specs.Conclude.{receivedAs}
 use Rattle.board.proofs.calls.hyphaloom_receive.Statement.{statement}
 use Rattle.board.proofs.calls.hyphaloom_receive.Tie as tie
 

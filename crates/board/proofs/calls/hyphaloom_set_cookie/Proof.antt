@@ -1,7 +1,7 @@
 -- The cookie that is set is the contract's: any word but 0 says that there is one.
 use mathlib.Core.Path.{_≡_}
 use borrow.Author.Needs.{needs}
-use Rattle.words.specs.Words.{isYes, cookieFrom}
+use Rattle.rows.specs.Words.{isYes, cookieFrom}
 use Rattle.board.proofs.calls.hyphaloom_set_cookie.Statement.{statement}
 use Rattle.board.proofs.calls.hyphaloom_set_cookie.Tie as tie
 

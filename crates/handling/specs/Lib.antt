@@ -1,4 +1,0 @@
--- The definitions that the contracts of `handling` cite.
--- Handles: document 01, "Handles", and the deferred lookups.
--- Leans on `slot` for a slot, on `state` for the stack, on `concluding` for the count of handles.
-pub mod Handles

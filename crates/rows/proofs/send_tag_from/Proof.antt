@@ -1,0 +1,19 @@
+use borrow.Author.Needs.{needs}
+use Rattle.octets.proofs.Tests.{picks}
+use Rattle.rows.specs.Words.{sendTagFrom}
+use Rattle.rows.proofs.send_tag_from.Statement.{statement}
+use Rattle.rows.proofs.send_tag_from.Tie as tie
+
+returns : tie.Need-returns
+unfolding sendTagFrom
+returns c = search picks
+
+tag-from-requires : tie.Need-tag-from-requires
+tag-from-requires c κs = search needs
+
+returns-2 : tie.Need-returns-2
+unfolding sendTagFrom
+returns-2 c = search (picks, c .tag-from .ensures)
+
+pub send-tag-from-spec : {M : Type 1} → statement M
+send-tag-from-spec = tie.close (tie.spec returns tag-from-requires returns-2)
