@@ -1,10 +1,12 @@
 //! The proved port, through the calls that its archive exports.
 //!
-//! Its state is bytes in a private buffer, with guard bytes on both sides. Rows are filled before a call, and a refusal
-//! must leave them so. What is not as it must be is a panic, which a comparison counts as a difference.
+//! Its state is bytes in a private buffer, with guard bytes on both sides. After a call every byte of it is in a field
+//! that is in use, or is 0 (`stray_byte`). Rows are filled before a call, and a refusal must leave them so. What is not as it
+//! must be is a panic, which a comparison counts as a difference.
 
 use crate::port::*;
 use crate::rows::*;
+use std::ops::Range;
 
 /// The calls over slices and rows.
 pub mod raw {
@@ -230,15 +232,52 @@ fn flag(byte: u8) -> bool {
     byte == 1
 }
 
-fn zeros(bytes: &[u8], unused: &[usize]) {
-    assert!(unused.iter().all(|at| bytes[*at] == 0), "an unused byte is not 0: {bytes:02x?}");
+/// A part that holds nothing where this byte is 0.
+fn absent(byte: u8, part: Range<usize>) -> Range<usize> {
+    if byte == 0 {
+        part
+    } else {
+        0..0
+    }
+}
+
+/// What holds nothing in a flow's place: all of a free one; else what lies between the fields, a cookie that the flow
+/// lacks, a stamp that it lacks.
+fn flow_gaps(b: &[u8]) -> [Range<usize>; 7] {
+    [absent(b[0], 0..FLOW), 3..4, 5..6, 7..8, absent(b[4], 8..16), absent(b[6], 16..28), 28..FLOW]
+}
+
+/// What holds nothing in a slot: all of an empty one; else what lies between the fields, a cookie that it lacks, the issue
+/// number where no handle is out. The sequence of a done slot is a field: it stays as the last packet has left it.
+fn slot_gaps(b: &[u8]) -> [Range<usize>; 4] {
+    let is_out = u8::from(b[0] == 3);
+    [absent(b[0], 0..SLOT), 13..16, absent(b[12], 24..32), absent(is_out, 32..SLOT)]
+}
+
+/// Most blocks are all zeros, and most gaps of the others are.
+fn stray<const N: usize>(b: &[u8], gaps: fn(&[u8]) -> [Range<usize>; N]) -> Option<usize> {
+    let is_zero = |part: &[u8]| part == &[0; SLOT][..part.len()];
+    if is_zero(b) {
+        return None;
+    }
+    let gap = gaps(b).into_iter().find(|gap| !is_zero(&b[gap.clone()]))?;
+    gap.into_iter().find(|at| b[*at] != 0)
+}
+
+/// The place of a byte that holds nothing and is not 0.
+pub fn stray_byte(state: &[u8]) -> Option<usize> {
+    let head = stray(&state[..FLOWS_AT], |_| [3..4]);
+    let flows = (FLOWS_AT..SLOTS_AT).step_by(FLOW).map(|at| (at, &state[at..at + FLOW]));
+    let slots = (SLOTS_AT..raw::STATE).step_by(SLOT).map(|at| (at, &state[at..at + SLOT]));
+    let in_flows = flows.filter_map(|(at, b)| stray(b, flow_gaps).map(|n| at + n));
+    let in_slots = slots.filter_map(|(at, b)| stray(b, slot_gaps).map(|n| at + n));
+    head.into_iter().chain(in_flows).chain(in_slots).next()
 }
 
 fn flow_view(b: &[u8]) -> Option<FlowView> {
     if !flag(b[0]) {
         return None;
     }
-    zeros(b, &[3, 5, 7, 28, 29, 30, 31]);
     Some(FlowView {
         peer: b[1],
         tag: b[2],
@@ -255,7 +294,6 @@ fn slot_view(b: &[u8], pool: &[u8]) -> Option<SlotView> {
         3 => Phase::Done { handle: Some(number(b, 32, 8)) },
         other => panic!("no state of a slot: {other}"),
     };
-    zeros(b, &[13, 14, 15]);
     Some(SlotView {
         phase,
         source: b[2],
@@ -277,10 +315,17 @@ impl Board {
         answer
     }
 
-    /// The guards stand, and the bytes between them are a state.
+    /// The guards stand, the bytes between them are a state, and those that hold nothing are 0.
     fn look(&self) {
         self.look_around();
         assert!(raw::is_kept(self.state()), "the bytes are no state");
+        self.look_between();
+    }
+
+    fn look_between(&self) {
+        if let Some(at) = stray_byte(self.state()) {
+            panic!("byte {at} of the state holds nothing and is {:02x}", self.state()[at]);
+        }
     }
 
     fn look_around(&self) {
@@ -409,8 +454,8 @@ impl Port for Board {
     }
 
     fn snapshot(&self, pool: &[u8]) -> Snapshot {
+        self.look_between();
         let state = self.state();
-        zeros(state, &[3]);
         let slot = |index| slot_view(&state[SLOTS_AT + SLOT * index..][..SLOT], &pool[BODY * index..]);
         Snapshot {
             own: state[0],

@@ -2,6 +2,7 @@
 //! of equality, else by the model.
 
 use crate::call::{payload, Answer, Call, Lent, KEPT};
+use crate::cover::PRESET;
 use crate::domain;
 use crate::generate::Generator;
 use crate::list::{self, Part, Record};
@@ -11,13 +12,6 @@ use crate::replay::{Follower, Player};
 use crate::rng::Rng;
 use crate::tally::Tally;
 
-/// Situations that no list without set counters can hold.
-const NEVER: [&str; 4] = [
-    "deferred: equal stamps",
-    "limit: counter at 2^32 - 1",
-    "limit: counter moves near its end",
-    "limit: issue number at 2^64 - 1",
-];
 const EPISODE: usize = 200;
 
 #[derive(Default)]
@@ -66,9 +60,9 @@ impl Maker {
         }
     }
 
-    /// The answers and situations that have not come up.
+    /// The answers and situations that a list must have and that have not come up.
     pub fn missing(&self) -> Vec<String> {
-        self.tally.missing().into_iter().filter(|m| !NEVER.contains(&m.as_str())).collect()
+        self.tally.missing(&[&PRESET])
     }
 
     /// Random calls from a new stack on; now and then a look at the pools. Without `everything`, only calls in the domain

@@ -31,11 +31,12 @@ impl Tally {
         }
     }
 
-    /// The answers and situations that have not come up.
-    pub fn missing(&self) -> Vec<String> {
+    /// The answers and situations that have not come up, but for these.
+    pub fn missing(&self, but: &[&[&str]]) -> Vec<String> {
         let answers = ANSWERS.iter().filter(|(call, kind)| !self.answers.contains_key(&(*call, *kind)));
         let situations = SITUATIONS.iter().filter(|name| !self.situations.contains_key(*name));
-        answers.map(|(call, kind)| format!("{call}: {kind}")).chain(situations.map(|s| s.to_string())).collect()
+        let names = answers.map(|(call, kind)| format!("{call}: {kind}")).chain(situations.map(|s| s.to_string()));
+        names.filter(|name| !but.iter().any(|names| names.contains(&name.as_str()))).collect()
     }
 
     fn mark(&mut self, name: &'static str, seen: bool) {

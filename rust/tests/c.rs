@@ -1,4 +1,4 @@
-//! The header in C and C++, and the same exchange in C and in Rust. Where no compiler is found, a test says so and passes.
+//! The header in C and C++, and the same exchange in C and in Rust. The compilers `cc` and `c++` must be there.
 
 #[allow(dead_code)]
 #[path = "../examples/talk.rs"]
@@ -16,16 +16,11 @@ fn root() -> PathBuf {
     Path::new(env!("CARGO_MANIFEST_DIR")).join("..")
 }
 
-/// What the compiler says to these arguments, or nothing if it is not there.
-fn compile(compiler: &str, arguments: &[&str]) -> Option<Output> {
+/// The compiler takes these arguments without a complaint.
+fn compile(compiler: &str, arguments: &[&str]) {
     let include = format!("-I{}", root().join("include").display());
-    match Command::new(compiler).args(STRICT).arg(include).args(arguments).output() {
-        Ok(output) => Some(output),
-        Err(err) => {
-            eprintln!("passed over: {compiler}: {err}");
-            None
-        }
-    }
+    let output = Command::new(compiler).args(STRICT).arg(include).args(arguments).output();
+    assert_well(&output.unwrap_or_else(|err| panic!("{compiler}: {err}")));
 }
 
 fn assert_well(output: &Output) {
@@ -34,13 +29,13 @@ fn assert_well(output: &Output) {
 }
 
 /// Compiles a C program, runs it and gives what it prints.
-fn run(source: &Path, name: &str) -> Option<String> {
+fn run(source: &Path, name: &str) -> String {
     let program = Path::new(env!("CARGO_TARGET_TMPDIR")).join(name);
     let paths = [source, Path::new(env!("HYPHALOOM_ARCHIVE")), &program].map(|p| p.display().to_string());
-    assert_well(&compile("cc", &["-std=c99", &paths[0], &paths[1], "-o", &paths[2]])?);
+    compile("cc", &["-std=c99", &paths[0], &paths[1], "-o", &paths[2]]);
     let output = Command::new(&program).output().expect("it is compiled for this machine");
     assert_well(&output);
-    Some(String::from_utf8(output.stdout).expect("text"))
+    String::from_utf8(output.stdout).expect("text")
 }
 
 #[test]
@@ -50,9 +45,7 @@ fn talk_in_rust() {
 
 #[test]
 fn talk_in_c() {
-    if let Some(said) = run(&root().join("examples/talk.c"), "talk") {
-        assert_eq!(said, EXPECTED);
-    }
+    assert_eq!(run(&root().join("examples/talk.c"), "talk"), EXPECTED);
 }
 
 /// The README's lines in C.
@@ -63,24 +56,18 @@ fn the_front_door_in_c() {
     let (block, _) = after.split_once("```").expect("the block's end");
     let source = Path::new(env!("CARGO_TARGET_TMPDIR")).join("front_door.c");
     std::fs::write(&source, block).expect("a place for it");
-    if let Some(said) = run(&source, "front_door") {
-        assert_eq!(said, "");
-    }
+    assert_eq!(run(&source, "front_door"), "");
 }
 
 #[test]
 fn edges_in_c() {
-    if let Some(said) = run(&Path::new(env!("CARGO_MANIFEST_DIR")).join("tests/c/edges.c"), "edges") {
-        assert_eq!(said, "");
-    }
+    assert_eq!(run(&Path::new(env!("CARGO_MANIFEST_DIR")).join("tests/c/edges.c"), "edges"), "");
 }
 
 #[test]
 fn the_header_stands_alone_in_c_and_in_cxx() {
     let header = root().join("include/hyphaloom.h").display().to_string();
     for (compiler, standard, language) in [("cc", "-std=c99", "c"), ("cc", "-std=c11", "c"), ("c++", "-std=c++11", "c++")] {
-        if let Some(output) = compile(compiler, &[standard, "-fsyntax-only", "-x", language, &header]) {
-            assert_well(&output);
-        }
+        compile(compiler, &[standard, "-fsyntax-only", "-x", language, &header]);
     }
 }

@@ -371,10 +371,7 @@ fn the_wrapper_has_the_headers_constants() {
 #[test]
 fn the_archive_has_the_exported_calls() {
     let archive = env!("HYPHALOOM_ARCHIVE");
-    let output = match Command::new("nm").args(["-g", archive]).output() {
-        Ok(output) => output,
-        Err(err) => return eprintln!("passed over: nm: {err}"),
-    };
+    let output = Command::new("nm").args(["-g", archive]).output().unwrap_or_else(|err| panic!("nm: {err}"));
     assert!(output.status.success(), "{}", String::from_utf8_lossy(&output.stderr));
     let text = String::from_utf8(output.stdout).expect("text");
     let mut found: Vec<_> = text.lines().filter_map(|line| line.split_once(" T ")).map(|(_, name)| name.to_string()).collect();

@@ -8,7 +8,7 @@ use Rattle.mctp.specs.Answer.{answerNo}
 use Rattle.mctp.proofs.Answers.{error-some}
 use Rattle.state.specs.Stack.{Kept}
 use Rattle.handles.specs.declared.Done.{Done}
-use Rattle.handles.specs.declared.Done.the-variants.{Done as Well, Refused}
+use Rattle.handles.specs.declared.Done.the-variants.{Well, Refused}
 use Rattle.handles.specs.Handles.{doneAs}
 use Rattle.estack.specs.Basics.{newSays, NewMakes}
 use Rattle.board.specs.Board.{board}

@@ -9,12 +9,12 @@ use Rattle.fragment.specs.declared.Started.the-variants.{Refused as Unstarted}
 use Rattle.state.specs.declared.Sizes.{Sizes}
 use Rattle.state.specs.Stack.{Stack}
 use Rattle.sending.specs.Sends.{Sent, unsent, startSendOf}
-use Rattle.rows.specs.Words.{lawful, sendOf}
+use Rattle.rows.specs.Words.{goodSend, sendOf}
 
 -- four slots, bodies of at most 1,032 bytes
 abbrev pub board : Sizes
 board = record { slots = 4; body = 1032 }
 
--- a row that is no lawful send is InvalidInput, with nothing changed
+-- a row that is no goodSend send is InvalidInput, with nothing changed
 unfoldable pub startOf : List ℕ → Stack → Sent
-startOf w st = pick (lawful w) (startSendOf (sendOf w) st) (unsent st (Unstarted InvalidInput))
+startOf w st = pick (goodSend w) (startSendOf (sendOf w) st) (unsent st (Unstarted InvalidInput))

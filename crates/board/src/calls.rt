@@ -10,7 +10,7 @@ ghost use Rattle.state.specs.Stack.{Kept, Becomes, stackOf};
 ghost use Rattle.receiving.specs.Conclude.{receivedAs};
 ghost use Rattle.receiving.specs.Receive.{receiveOf};
 ghost use Rattle.estack.specs.Basics.{newSays, NewMakes, setEidOf, localOf, cancelOf, freeTagsOf};
-ghost use Rattle.handles.specs.Handles.{doneAs, fetchedAs, deferredAs, finishOf, returnOf, cookieOf, fetchOf, bySourceOf, byCookieOf};
+ghost use Rattle.handles.specs.Handles.{doneAs, fetchedAs, deferredAs, finishOf, returnOf, setCookieOf, fetchOf, bySourceOf, byCookieOf};
 ghost use Rattle.updating.specs.Update.{updatedAs, updateOf};
 ghost use Rattle.rows.specs.Words.{isYes, tagFrom, cookieFrom, fragmenterOf};
 ghost use Rattle.rows.specs.Answers.{lengthAfter, steppedAfter};
@@ -21,7 +21,7 @@ use mctp::TagValue;
 use rows::cookie_from;
 use rows::done_no;
 use rows::fragmenter_of;
-use rows::is_lawful;
+use rows::is_good_send;
 use rows::put_deferred;
 use rows::put_message;
 use rows::put_next;
@@ -87,7 +87,7 @@ pub extern "C" fn hyphaloom_start_send(
     ensures stack { λ _. ⌜ Becomes board (now (state .entry)) (now (state .exit)) (startOf (now (send .entry)) (stackOf board (now (state .entry))) .stack) ⌝ }
     ensures fragmenter { λ _. ⌜ now (fragmenter .exit) ≡ rowAfter 13 (startedAs (startOf (now (send .entry)) (stackOf board (now (state .entry))) .said)) (now (fragmenter .entry)) ⌝ }
 {
-    let good = is_lawful(send);
+    let good = is_good_send(send);
     if good {
         let started = estack::start_send(state, Sizes::BOARD, send_of(send));
         return put_started(fragmenter, started);
@@ -236,8 +236,8 @@ pub extern "C" fn hyphaloom_set_cookie(
     cookie: u64,
 ) -> u8
     requires { ⌜ Kept board (now state) ⌝ }
-    ensures said { λ r. ⌜ r ≡ answerNo (doneAs (cookieOf (record { index = index; issue = issue }) (cookieFrom (isYes «has_cookie») cookie) (stackOf board (now (state .entry))) .said)) ⌝ }
-    ensures stack { λ _. ⌜ Becomes board (now (state .entry)) (now (state .exit)) (cookieOf (record { index = index; issue = issue }) (cookieFrom (isYes «has_cookie») cookie) (stackOf board (now (state .entry))) .stack) ⌝ }
+    ensures said { λ r. ⌜ r ≡ answerNo (doneAs (setCookieOf (record { index = index; issue = issue }) (cookieFrom (isYes «has_cookie») cookie) (stackOf board (now (state .entry))) .said)) ⌝ }
+    ensures stack { λ _. ⌜ Becomes board (now (state .entry)) (now (state .exit)) (setCookieOf (record { index = index; issue = issue }) (cookieFrom (isYes «has_cookie») cookie) (stackOf board (now (state .entry))) .stack) ⌝ }
 {
     let handle = handle_of(index, issue);
     let value = cookie_from(0 < has_cookie, cookie);

@@ -7,7 +7,7 @@ use Rattle.mctp.specs.declared.Eid.{Eid}
 use Rattle.state.specs.declared.Sizes.{Sizes}
 use Rattle.state.proofs.StackLaws.{determined}
 use Rattle.handles.specs.declared.Done.{Done}
-use Rattle.handles.specs.declared.Done.the-variants.{Done as Well, Refused}
+use Rattle.handles.specs.declared.Done.the-variants.{Well, Refused}
 use Rattle.estack.specs.Basics.{freshStack, NewMakes}
 
 pub new-pinned : (z : Sizes) (own : Eid) (mtu clock : ℕ) (r : Done) (b x y : List ℕ) → NewMakes r z own mtu clock b x → NewMakes r z own mtu clock b y → x ≡ y

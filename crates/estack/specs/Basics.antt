@@ -22,12 +22,12 @@ use Rattle.reassemble.specs.Enter.{localPacket}
 use Rattle.state.specs.declared.Sizes.{Sizes}
 use Rattle.state.specs.declared.Head.{Head}
 use Rattle.state.specs.Layout.{flowCount, size}
-use Rattle.state.specs.Head.{reowned}
-use Rattle.state.specs.Stack.{Stack, Becomes, rehead, reslots, reflows}
+use Rattle.state.specs.Head.{withOwn}
+use Rattle.state.specs.Stack.{Stack, Becomes, withHead, withSlots, withFlows}
 use Rattle.slot_walks.specs.SlotWalks.{swept, blocked}
 use Rattle.handles.specs.declared.Done.{Done}
-use Rattle.handles.specs.declared.Done.the-variants.{Done as Well, Refused}
-use Rattle.handles.specs.Handles.{Outcome}
+use Rattle.handles.specs.declared.Done.the-variants.{Well, Refused}
+use Rattle.handles.specs.Handles.{Handled}
 
 -- a stack that has done nothing: no slot taken, no flow, tag and sequence counters 0, the planned check at 0, no handle out yet
 abbrev pub freshHead : Eid → ℕ → ℕ → Head
@@ -61,11 +61,11 @@ NewMakes Well z own mtu clock b b′ = Becomes z b b′ (freshStack z own mtu cl
 NewMakes (Refused err) z own mtu clock b b′ = b′ ≡ b
 
 -- 8 to 254, else InvalidInput
-abbrev pub eidSet : EidRead → Stack → Outcome
-eidSet (Normal own) st = record { stack = rehead (reowned own (st .head)) st; said = Well }
+abbrev pub eidSet : EidRead → Stack → Handled
+eidSet (Normal own) st = record { stack = withHead (withOwn own (st .head)) st; said = Well }
 eidSet (NotNormal err) st = record { stack = st; said = Refused err }
 
-abbrev pub setEidOf : ℕ → Stack → Outcome
+abbrev pub setEidOf : ℕ → Stack → Handled
 setEidOf eid st = eidSet (normalEid eid) st
 
 -- a good header to own or 0
@@ -74,11 +74,11 @@ localOf p st = localPacket (st .head .«own_eid») p
 
 -- walks slots upward, frees replies of that peer and tag; at one with a handle out stops with BadArgument, earlier ones stay freed, flow stays.
 -- Otherwise the flow goes, if there; absent is no error. A tag above 7 is InvalidInput
-unfoldable pub cancelOf : Eid → TagValue → Stack → Outcome
+unfoldable pub cancelOf : Eid → TagValue → Stack → Handled
 cancelOf peer tag st =
     pick (ltb 7 (tag .0)) (record { stack = st; said = Refused InvalidInput })
-    (pick (blocked peer tag (st .slots)) (record { stack = reslots (swept peer tag (st .slots)) st; said = Refused BadArgument })
-    (record { stack = reflows (removed peer tag (st .flows)) (reslots (swept peer tag (st .slots)) st); said = Well }))
+    (pick (blocked peer tag (st .slots)) (record { stack = withSlots (swept peer tag (st .slots)) st; said = Refused BadArgument })
+    (record { stack = withFlows (removed peer tag (st .flows)) (withSlots (swept peer tag (st .slots)) st); said = Well }))
 
 -- free tags left for a peer: the zeros among its eight used-tag bits
 abbrev pub freeTagsOf : Eid → Stack → ℕ

@@ -4,8 +4,8 @@
 ghost use mathlib.Core.Path.{_≡_};
 ghost use Prim.Native.Nat.{_+_, _≤_, _<_};
 ghost use lib.ListN.{length};
-ghost use Rattle.state.specs.Head.{reowned};
-ghost use Rattle.state.specs.Stack.{Kept, Becomes, stackOf, rehead};
+ghost use Rattle.state.specs.Head.{withOwn};
+ghost use Rattle.state.specs.Stack.{Kept, Becomes, stackOf, withHead};
 ghost use Rattle.estack.specs.Basics.{freshStack, newSays, NewMakes, setEidOf, localOf, cancelOf, freeTagsOf};
 pub use handles::Deferred;
 pub use handles::Done;
@@ -67,7 +67,7 @@ pub fn new(state: &mut [u8], sizes: Sizes, own: Eid, mtu: usize, clock: u64) -> 
         issue: 0,
     };
     state::put_head(state, sizes, h);
-    Done::Done
+    Done::Well
 }
 
 // The own EID becomes another: 8 to 254.
@@ -78,7 +78,7 @@ pub fn set_eid(state: &mut [u8], sizes: Sizes, eid: u8) -> Done
     match Eid::new_normal(eid) {
         EidRead::Normal(own) => {
             put_own(state, sizes, own);
-            Done::Done
+            Done::Well
         }
         EidRead::Refused(err) => Done::Refused(err),
     }
@@ -86,7 +86,7 @@ pub fn set_eid(state: &mut [u8], sizes: Sizes, eid: u8) -> Done
 
 fn put_own(state: &mut [u8], sizes: Sizes, own: Eid)
     requires { ⌜ Kept sizes (now state) ⌝ }
-    ensures { λ _. ⌜ Becomes sizes (now (state .entry)) (now (state .exit)) (rehead (reowned own (stackOf sizes (now (state .entry)) .head)) (stackOf sizes (now (state .entry)))) ⌝ }
+    ensures { λ _. ⌜ Becomes sizes (now (state .entry)) (now (state .exit)) (withHead (withOwn own (stackOf sizes (now (state .entry)) .head)) (stackOf sizes (now (state .entry)))) ⌝ }
 {
     let h = state::head_at(state, sizes);
     state::put_head(state, sizes, h.with_own(own));
@@ -121,7 +121,7 @@ pub fn cancel_flow(state: &mut [u8], sizes: Sizes, source: Eid, tag: TagValue) -
         return Done::Refused(Error::BadArgument);
     }
     flow_walks::remove_flow(state, sizes, source, tag);
-    Done::Done
+    Done::Well
 }
 
 // Free tags left for a peer.

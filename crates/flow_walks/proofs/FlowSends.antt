@@ -26,11 +26,11 @@ use Rattle.state.specs.declared.Sizes.{Sizes}
 use Rattle.state.specs.Layout.{flowCount}
 use Rattle.state.specs.Stack.{Stack, Kept, Becomes, stackOf, flowAt}
 use Rattle.state.proofs.StackLaws.{flows-length, stays, andThen}
-use Rattle.flow_walks.specs.FlowWalks.{tableOf, retable}
+use Rattle.flow_walks.specs.FlowWalks.{tableOf, withTable}
 
 -- from b comes b′ with the table that r has, and g is what r grants
 abbrev pub Sent : Sizes → List ℕ → List ℕ → Stack → Granted → Flowed → Type 0
-Sent z b b′ st g r = (g ≡ r .granted) × Becomes z b b′ (retable (r .table) st)
+Sent z b b′ st g r = (g ≡ r .granted) × Becomes z b b′ (withTable (r .table) st)
 
 -- the same, said otherwise
 pub sent-as : (z : Sizes) (b b′ : List ℕ) (st : Stack) (g : Granted) (r s : Flowed) → r ≡ s → Sent z b b′ st g r → Sent z b b′ st g s
@@ -40,7 +40,7 @@ sent-as z b b′ st g r s e h = subst (λ (x : Flowed). Sent z b b′ st g x) e 
 pub sent-then : (z : Sizes) (b x y : List ℕ) (st : Stack) (g : Granted) (f : Table → Flowed) → Becomes z b x st
     → Sent z x y (stackOf z x) g (f (tableOf (stackOf z x))) → Sent z b y st g (f (tableOf st))
 sent-then z b x y st g f p q =
-    (q .0 ∙ ap (λ (s : Stack). f (tableOf s) .granted) (p .view), andThen z (λ (s : Stack). retable (f (tableOf s) .table) s) b x y st p (q .1))
+    (q .0 ∙ ap (λ (s : Stack). f (tableOf s) .granted) (p .view), andThen z (λ (s : Stack). withTable (f (tableOf s) .table) s) b x y st p (q .1))
 
 -- a tag that the search finds is one of the eight
 pub free-small : (used start : ℕ) (t : TagValue) → freeTagOf used start ≡ Free t → t .0 < 8

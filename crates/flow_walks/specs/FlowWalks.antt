@@ -13,8 +13,8 @@ use Rattle.state.specs.Stack.{Stack}
 abbrev pub tableOf : Stack → Table
 tableOf st = record { flows = st .flows; now = st .head .now; counter = st .head .«next_tag» }
 
-abbrev pub retable : Table → Stack → Stack
-retable t st = record {
+abbrev pub withTable : Table → Stack → Stack
+withTable t st = record {
   head = record {
     «own_eid» = st .head .«own_eid»;
     mtu = st .head .mtu;

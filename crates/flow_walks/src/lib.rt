@@ -7,10 +7,10 @@ ghost use Prim.Native.Nat.{_+_, _≤_, _<_, _^_};
 ghost use Rattle.octets.specs.Find.{find};
 ghost use Rattle.flows.specs.Table.{isFree, flowPlace, removed, usedTags, flowTimeout, fadedFlow, insertFlow, counted as countedBy, freshFlow, fixedFlow, setFlow};
 ghost use Rattle.state.specs.Layout.{flowCount};
-ghost use Rattle.state.specs.Stack.{Kept, Becomes, stackOf, flowAt, reflow, renow, reflows};
+ghost use Rattle.state.specs.Stack.{Kept, Becomes, stackOf, flowAt, withFlow, withStamp, withFlows};
 ghost use Rattle.stamp.specs.Checks.{checkOf};
 ghost use Rattle.state.specs.Times.{flowTimes};
-ghost use Rattle.flow_walks.specs.FlowWalks.{tableOf, retable, hasFlowWord};
+ghost use Rattle.flow_walks.specs.FlowWalks.{tableOf, withTable, hasFlowWord};
 use flows::Granted;
 use flows::TagFound;
 use flows::Wish;
@@ -83,7 +83,7 @@ pub fn used_tags(state: &[u8], sizes: Sizes, peer: Eid) -> u8
 // The flow of that peer and tag goes; absent is no error.
 pub fn remove_flow(state: &mut [u8], sizes: Sizes, peer: Eid, tag: TagValue)
     requires { ⌜ Kept sizes (now state) ⌝ }
-    ensures { λ _. ⌜ Becomes sizes (now (state .entry)) (now (state .exit)) (reflows (removed peer tag (stackOf sizes (now (state .entry)) .flows)) (stackOf sizes (now (state .entry)))) ⌝ }
+    ensures { λ _. ⌜ Becomes sizes (now (state .entry)) (now (state .exit)) (withFlows (removed peer tag (stackOf sizes (now (state .entry)) .flows)) (stackOf sizes (now (state .entry)))) ⌝ }
 {
     let at = find_flow(state, sizes, peer, tag);
     if at < state::FLOW_COUNT {
@@ -94,7 +94,7 @@ pub fn remove_flow(state: &mut [u8], sizes: Sizes, peer: Eid, tag: TagValue)
 // The stamp of a new flow: one that expires counts an event.
 fn counted(state: &mut [u8], sizes: Sizes, expires: bool) -> EventStamp
     requires { ⌜ Kept sizes (now state) ⌝ }
-    ensures { λ r. ⌜ (r ≡ countedBy expires (stackOf sizes (now (state .entry)) .head .now)) × Becomes sizes (now (state .entry)) (now (state .exit)) (renow (countedBy expires (stackOf sizes (now (state .entry)) .head .now)) (stackOf sizes (now (state .entry)))) ⌝ }
+    ensures { λ r. ⌜ (r ≡ countedBy expires (stackOf sizes (now (state .entry)) .head .now)) × Becomes sizes (now (state .entry)) (now (state .exit)) (withStamp (countedBy expires (stackOf sizes (now (state .entry)) .head .now)) (stackOf sizes (now (state .entry)))) ⌝ }
 {
     if expires {
         return state::tick(state, sizes);
@@ -112,7 +112,7 @@ fn insert_flow(
     cookie: Cookie,
 ) -> Granted
     requires { ⌜ Kept sizes (now state) × (tag .0 < 8) ⌝ }
-    ensures { λ r. ⌜ (r ≡ insertFlow peer tag expires cookie (tableOf (stackOf sizes (now (state .entry)))) .granted) × Becomes sizes (now (state .entry)) (now (state .exit)) (retable (insertFlow peer tag expires cookie (tableOf (stackOf sizes (now (state .entry)))) .table) (stackOf sizes (now (state .entry)))) ⌝ }
+    ensures { λ r. ⌜ (r ≡ insertFlow peer tag expires cookie (tableOf (stackOf sizes (now (state .entry)))) .granted) × Becomes sizes (now (state .entry)) (now (state .exit)) (withTable (insertFlow peer tag expires cookie (tableOf (stackOf sizes (now (state .entry)))) .table) (stackOf sizes (now (state .entry)))) ⌝ }
 {
     let stamp = counted(state, sizes, expires);
     let i = find_free(state, sizes);
@@ -127,7 +127,7 @@ fn insert_flow(
 // A flow under a fresh tag: the counter goes up even if none is free.
 fn fresh_flow(state: &mut [u8], sizes: Sizes, peer: Eid, expires: bool, cookie: Cookie) -> Granted
     requires { ⌜ Kept sizes (now state) ⌝ }
-    ensures { λ r. ⌜ (r ≡ freshFlow peer expires cookie (tableOf (stackOf sizes (now (state .entry)))) .granted) × Becomes sizes (now (state .entry)) (now (state .exit)) (retable (freshFlow peer expires cookie (tableOf (stackOf sizes (now (state .entry)))) .table) (stackOf sizes (now (state .entry)))) ⌝ }
+    ensures { λ r. ⌜ (r ≡ freshFlow peer expires cookie (tableOf (stackOf sizes (now (state .entry)))) .granted) × Becomes sizes (now (state .entry)) (now (state .exit)) (withTable (freshFlow peer expires cookie (tableOf (stackOf sizes (now (state .entry)))) .table) (stackOf sizes (now (state .entry)))) ⌝ }
 {
     let start = state::next_tag(state, sizes);
     let used = used_tags(state, sizes, peer);
@@ -147,7 +147,7 @@ fn fixed_flow(
     cookie: Cookie,
 ) -> Granted
     requires { ⌜ Kept sizes (now state) × (tag .0 < 8) ⌝ }
-    ensures { λ r. ⌜ (r ≡ fixedFlow peer tag expires cookie (tableOf (stackOf sizes (now (state .entry)))) .granted) × Becomes sizes (now (state .entry)) (now (state .exit)) (retable (fixedFlow peer tag expires cookie (tableOf (stackOf sizes (now (state .entry)))) .table) (stackOf sizes (now (state .entry)))) ⌝ }
+    ensures { λ r. ⌜ (r ≡ fixedFlow peer tag expires cookie (tableOf (stackOf sizes (now (state .entry)))) .granted) × Becomes sizes (now (state .entry)) (now (state .exit)) (withTable (fixedFlow peer tag expires cookie (tableOf (stackOf sizes (now (state .entry)))) .table) (stackOf sizes (now (state .entry)))) ⌝ }
 {
     let i = find_flow(state, sizes, peer, tag);
     if i < state::FLOW_COUNT {
@@ -171,7 +171,7 @@ pub fn set_flow(
     cookie: Cookie,
 ) -> Granted
     requires { ⌜ Kept sizes (now state) ⌝ }
-    ensures { λ r. ⌜ (r ≡ setFlow peer wish expires cookie (tableOf (stackOf sizes (now (state .entry)))) .granted) × Becomes sizes (now (state .entry)) (now (state .exit)) (retable (setFlow peer wish expires cookie (tableOf (stackOf sizes (now (state .entry)))) .table) (stackOf sizes (now (state .entry)))) ⌝ }
+    ensures { λ r. ⌜ (r ≡ setFlow peer wish expires cookie (tableOf (stackOf sizes (now (state .entry)))) .granted) × Becomes sizes (now (state .entry)) (now (state .exit)) (withTable (setFlow peer wish expires cookie (tableOf (stackOf sizes (now (state .entry)))) .table) (stackOf sizes (now (state .entry)))) ⌝ }
 {
     match wish {
         Wish::Fresh => fresh_flow(state, sizes, peer, expires, cookie),
@@ -187,7 +187,7 @@ pub fn set_flow(
 // One flow of a check: expired, it goes.
 fn expire_flow(state: &mut [u8], sizes: Sizes, i: usize, clock: u64, c: Check) -> Check
     requires { ⌜ Kept sizes (now state) × (i < flowCount) ⌝ }
-    ensures { λ r. ⌜ (r ≡ checkOf (flowTimeout clock (flowAt i (stackOf sizes (now (state .entry)))) ∷ []) c) × Becomes sizes (now (state .entry)) (now (state .exit)) (reflow i (fadedFlow clock (flowAt i (stackOf sizes (now (state .entry))))) (stackOf sizes (now (state .entry)))) ⌝ }
+    ensures { λ r. ⌜ (r ≡ checkOf (flowTimeout clock (flowAt i (stackOf sizes (now (state .entry)))) ∷ []) c) × Becomes sizes (now (state .entry)) (now (state .exit)) (withFlow i (fadedFlow clock (flowAt i (stackOf sizes (now (state .entry))))) (stackOf sizes (now (state .entry)))) ⌝ }
 {
     let t = state::flow_at(state, sizes, i).check_expired(clock);
     let found = c.noted(t);
@@ -201,7 +201,7 @@ fn expire_flow(state: &mut [u8], sizes: Sizes, i: usize, clock: u64, c: Check) -
 // Expired flows go; what the check found goes on from `c`.
 pub fn expire_flows(state: &mut [u8], sizes: Sizes, clock: u64, c: Check) -> Check
     requires { ⌜ Kept sizes (now state) ⌝ }
-    ensures { λ r. ⌜ (r ≡ checkOf (flowTimes clock (stackOf sizes (now (state .entry)))) c) × Becomes sizes (now (state .entry)) (now (state .exit)) (reflows (map (fadedFlow clock) (stackOf sizes (now (state .entry)) .flows)) (stackOf sizes (now (state .entry)))) ⌝ }
+    ensures { λ r. ⌜ (r ≡ checkOf (flowTimes clock (stackOf sizes (now (state .entry)))) c) × Becomes sizes (now (state .entry)) (now (state .exit)) (withFlows (map (fadedFlow clock) (stackOf sizes (now (state .entry)) .flows)) (stackOf sizes (now (state .entry)))) ⌝ }
 {
     let mut found = c;
     let mut i = 0;

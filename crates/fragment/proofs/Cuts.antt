@@ -27,7 +27,7 @@ use Rattle.mctp.specs.Header.{headerBytes, headerOf, lead, typeByte, typeOf, in
 use Rattle.fragment.specs.declared.Fragmenter.{Fragmenter}
 use Rattle.fragment.specs.declared.Started.{Started}
 use Rattle.fragment.specs.declared.Started.the-variants.{Sends, Refused}
-use Rattle.fragment.specs.Step.{Step, Sound, stepOf, newOf, fresh, fitting, ends, headOf, packetOf, advancedBy, nextOf}
+use Rattle.fragment.specs.Step.{Step, Sound, stepOf, newOf, fresh, fitting, ends, headerFor, packetFor, advancedBy, nextOf}
 use Rattle.fragment.specs.Cutting.{PacketIs, InTurn, saysSom, bodyIn, joined, kindIn, Carries}
 use Rattle.fragment.specs.Run.{wrote, written, after}
 use Rattle.octets.proofs.Bools.{no-both, bool-cases}
@@ -157,7 +157,7 @@ so-far-none f payload s = record {
 
 module _ (f : Fragmenter) (payload : List ℕ) (n : ℕ) (sending : Sending f payload) (room : lead (f .first) ≤ n) where
   abbrev p : List ℕ
-  p = packetOf f payload n
+  p = packetFor f payload n
 
   abbrev k : ℕ
   k = fitting f (length payload) n
@@ -168,14 +168,14 @@ module _ (f : Fragmenter) (payload : List ℕ) (n : ℕ) (sending : Sending f pa
   abbrev g : Fragmenter
   g = nextOf f (length payload) n
 
-  head : headerOf p ≡ Good (headOf f (ends f (length payload) n))
-  head = read-back (headOf f (ends f (length payload) n)) (sending .sound .seq) (sending .sound .tag) (intro (f .first) (typeByte (f .typ) (f .ic)) b)
+  head : headerOf p ≡ Good (headerFor f (ends f (length payload) n))
+  head = read-back (headerFor f (ends f (length payload) n)) (sending .sound .seq) (sending .sound .tag) (intro (f .first) (typeByte (f .typ) (f .ic)) b)
 
   pub packet-size : length p ≡ lead (f .first) + k
   packet-size =
       let u = sending .used in
       let l = length-part (f .«payload_used») k payload (omega arith) in
-      let z = length-packet (f .first) (headOf f (ends f (length payload) n)) (typeByte (f .typ) (f .ic)) b in
+      let z = length-packet (f .first) (headerFor f (ends f (length payload) n)) (typeByte (f .typ) (f .ic)) b in
       omega arith
 
   packet-is : PacketIs (keyUnder (f .src) (f .dest) (f .tag)) (f .mtu) (f .first) (ends f (length payload) n) (f .seq) p
@@ -187,12 +187,12 @@ module _ (f : Fragmenter) (payload : List ℕ) (n : ℕ) (sending : Sending f pa
 
   packet-body : bodyIn p ≡ b
   packet-body =
-      ap (λ (r : HeaderRead). drop (lead (saysSom r)) p) head ∙ drop-lead (f .first) (headOf f (ends f (length payload) n)) (typeByte (f .typ) (f .ic)) b
+      ap (λ (r : HeaderRead). drop (lead (saysSom r)) p) head ∙ drop-lead (f .first) (headerFor f (ends f (length payload) n)) (typeByte (f .typ) (f .ic)) b
 
   packet-kind : (ps : List (List ℕ)) → f .first ≡ true → kindIn (p ∷ ps) ≡ typeByte (f .typ) (f .ic)
   unfolding kindIn
   packet-kind ps e =
-      ap (λ (c : Bool). getD (headerBytes (headOf f (ends f (length payload) n)) ++ intro c (typeByte (f .typ) (f .ic)) b) 4 0) e
+      ap (λ (c : Bool). getD (headerBytes (headerFor f (ends f (length payload) n)) ++ intro c (typeByte (f .typ) (f .ic)) b) 4 0) e
 
   -- the last packet
   so-far-last : ends f (length payload) n ≡ true → SoFar f payload (p ∷ []) g

@@ -18,7 +18,7 @@ use Rattle.mctp.specs.declared.Tag.{Tag}
 use Rattle.mctp.specs.Header.{lead}
 use Rattle.fragment.specs.declared.Fragmenter.{Fragmenter}
 use Rattle.fragment.specs.declared.Started.the-variants.{Sends}
-use Rattle.fragment.specs.Step.{stepOf, newOf, fresh, fitting, ends, packetOf, nextOf}
+use Rattle.fragment.specs.Step.{stepOf, newOf, fresh, fitting, ends, packetFor, nextOf}
 use Rattle.fragment.specs.Run.{written, Full}
 use Rattle.fragment.proofs.Steps.{step-emits}
 use Rattle.fragment.proofs.Idle.{Every, every-first, every-rest}
@@ -47,7 +47,7 @@ module _ (f : Fragmenter) (payload : List ℕ) (n : ℕ) (sending : Sending f pa
       omega arith
 
   -- no packet is longer than the MTU
-  within : length (packetOf f payload n) ≤ f .mtu
+  within : length (packetFor f payload n) ≤ f .mtu
   within =
       let m = lead-most (f .first) in
       let least = sending .sound .least in
@@ -55,7 +55,7 @@ module _ (f : Fragmenter) (payload : List ℕ) (n : ℕ) (sending : Sending f pa
       omega arith
 
   -- a packet with more to come fills it
-  filled : ends f (length payload) n ≡ false → length (packetOf f payload n) ≡ f .mtu
+  filled : ends f (length payload) n ≡ false → length (packetFor f payload n) ≡ f .mtu
   filled e =
       let m = lead-most (f .first) in
       let least = sending .sound .least in
@@ -69,7 +69,7 @@ full-on : (ns : List ℕ) (f : Fragmenter) (payload : List ℕ) → Sending f pa
 full-on [] f payload s r = rw (written-nil f payload) (full-none (f .mtu))
 full-on (n ∷ ns) f payload s r =
     let b = every-first (λ (m : ℕ). f .mtu ≤ m) n ns r in
-    let p = packetOf f payload n in
+    let p = packetFor f payload n in
     let g = nextOf f (length payload) n in
     let l = room f payload n s b in
     rw (written-on f payload n ns (step-emits f payload n (s .going) l (s .used)))

@@ -11,7 +11,7 @@ use Rattle.octets.specs.Bytes.{part}
 use Rattle.mctp.specs.Header.{headerBytes, lead}
 use Rattle.fragment.specs.declared.Fragmenter.{Fragmenter}
 use Rattle.fragment.specs.declared.SendOutput.the-variants.{Packet}
-use Rattle.fragment.specs.Step.{Step, stepOf, fitting, ends, headOf, packetOf}
+use Rattle.fragment.specs.Step.{Step, stepOf, fitting, ends, headerFor, packetFor}
 use Rattle.fragment.specs.Run.{written, after}
 use Rattle.fragment.proofs.Steps.{step-small, step-emits, packet-with}
 use Rattle.octets.proofs.Bools.{bool-cases}
@@ -59,7 +59,7 @@ numbered f = record {
 
 -- a step that writes a header alone
 abbrev pub bareStep : Fragmenter → Step
-bareStep f = record { result = record { next = numbered f; output = Packet 4 }; bytes = headerBytes (headOf f false) }
+bareStep f = record { result = record { next = numbered f; output = Packet 4 }; bytes = headerBytes (headerFor f false) }
 
 -- later in a message, with body left
 pub record Later (f : Fragmenter) (payload : List ℕ) : Type 0 where
@@ -79,10 +79,10 @@ bare f payload l =
     let q : (f .seq % 4 + 1) % 4 ≡ (f .seq + 1) % 4 = omega arith in
     let u : f .«payload_used» + fitting f (length payload) 4 ≡ f .«payload_used» = omega arith in
     let z : lead (f .first) + fitting f (length payload) 4 ≡ 4 = omega arith in
-    let b : packetOf f payload 4 ≡ headerBytes (headOf f false) =
+    let b : packetFor f payload 4 ≡ headerBytes (headerFor f false) =
     packet-with f payload 4 false (l .later)
-    ∙ ap (λ (c : Bool). headerBytes (headOf f c) ++ part (f .«payload_used») (fitting f (length payload) 4) payload) e
-    ∙ ap (λ (m : ℕ). headerBytes (headOf f false) ++ part (f .«payload_used») m payload) k in
+    ∙ ap (λ (c : Bool). headerBytes (headerFor f c) ++ part (f .«payload_used») (fitting f (length payload) 4) payload) e
+    ∙ ap (λ (m : ℕ). headerBytes (headerFor f false) ++ part (f .«payload_used») m payload) k in
     step-emits f payload 4 (l .going) (omega arith) (omega arith)
     ∙ (λ i. record {
       result = record {
@@ -107,7 +107,7 @@ bare f payload l =
 -- the headers alone of so many steps
 unfoldable pub bares : ℕ → Fragmenter → List (List ℕ)
 bares zero f = []
-bares (suc k) f = headerBytes (headOf f false) ∷ bares k (numbered f)
+bares (suc k) f = headerBytes (headerFor f false) ∷ bares k (numbered f)
 
 -- room 4 for ever: a header alone at each step, no byte of the payload, and no end
 pub bare-run : (ns : List ℕ) (f : Fragmenter) (payload : List ℕ) → Later f payload → Every (λ n. n ≡ 4) ns
@@ -118,4 +118,4 @@ bare-run (n ∷ ns) f payload l u =
     let four = every-first (λ m. m ≡ 4) n ns u in
     let e : stepOf f payload n ≡ bareStep f = ap (stepOf f payload) four ∙ bare f payload l in
     let r = bare-run ns (numbered f) payload (record { mtu = l .mtu; later = l .later; going = l .going; left = l .left }) (every-rest (λ m. m ≡ 4) n ns u) in
-    rw (written-on f payload n ns e, after-on f payload n ns e) (ap (λ (ps : List (List ℕ)). headerBytes (headOf f false) ∷ ps) (r .0), r .1, r .2)
+    rw (written-on f payload n ns e, after-on f payload n ns e) (ap (λ (ps : List (List ℕ)). headerBytes (headerFor f false) ∷ ps) (r .0), r .1, r .2)

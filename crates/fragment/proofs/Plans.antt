@@ -18,7 +18,7 @@ use Rattle.fragment.specs.declared.Fragmenter.{Fragmenter}
 use Rattle.fragment.specs.declared.Plan.{Plan}
 use Rattle.fragment.specs.declared.SendOutput.{SendOutput}
 use Rattle.fragment.specs.declared.SendOutput.the-variants.{Packet, Complete, Error as Failed}
-use Rattle.fragment.specs.Step.{Step, stepOf, refused, emitted, advancedBy, headOf, fitting, stillOf, emitOf, planOf, writtenBy, Writable}
+use Rattle.fragment.specs.Step.{Step, stepOf, refused, emitted, advancedBy, headerFor, fitting, stillOf, emitOf, planOf, writtenBy, Writable}
 
 still-fits : (f : Fragmenter) (o : SendOutput) (size n : ℕ) → Writable (stillOf f o) size n
 still-fits f o size n = record { within = λ e. absurd (no-both e refl); room = λ e. absurd (no-both e refl) }
@@ -51,7 +51,7 @@ module _ (f : Fragmenter) (size n : ℕ) (r : Plan) where
 -- a plan whose parts are computed one after the other
 pub emits : (f : Fragmenter) (size n : ℕ) {next : Fragmenter} {h : Header} {start room rest k kind : ℕ}
     → start ≡ lead (f .first) → room ≡ min n (f .mtu) → rest ≡ room - start → k ≡ min (size - f .«payload_used») rest
-    → h ≡ headOf f (eqb (f .«payload_used» + k) size) → next ≡ advancedBy f k (eqb (f .«payload_used» + k) size) → kind ≡ typeByte (f .typ) (f .ic)
+    → h ≡ headerFor f (eqb (f .«payload_used» + k) size) → next ≡ advancedBy f k (eqb (f .«payload_used» + k) size) → kind ≡ typeByte (f .typ) (f .ic)
     → record { next = next; output = Packet (start + k); writes = true; header = h; kind = kind; from = f .«payload_used»; len = k } ≡ emitOf f size n
 emits f size n {k = k} is-start is-room is-rest is-k is-h is-next is-kind =
     let fit : k ≡ fitting f size n = is-k ∙ rw (is-rest, is-room, is-start) in rw (is-h, is-next, is-kind, is-start, fit)

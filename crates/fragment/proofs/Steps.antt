@@ -10,7 +10,7 @@ use Rattle.mctp.specs.declared.Error.the-variants.{InvalidInput, NoSpace}
 use Rattle.mctp.specs.Header.{headerBytes, lead, intro, typeByte}
 use Rattle.fragment.specs.declared.Fragmenter.{Fragmenter}
 use Rattle.fragment.specs.declared.SendOutput.the-variants.{Complete}
-use Rattle.fragment.specs.Step.{Step, stepOf, refused, emitted, headOf, ends, fitting, packetOf}
+use Rattle.fragment.specs.Step.{Step, stepOf, refused, emitted, headerFor, ends, fitting, packetFor}
 
 abbrev pub finished : Fragmenter → Step
 finished f = record { result = record { next = f; output = Complete (f .tag) (f .cookie) }; bytes = [] }
@@ -34,10 +34,10 @@ module _ (f : Fragmenter) (payload : List ℕ) (n : ℕ) where
 
   -- the packet's bytes, where it is known whether it is the first
   pub packet-with : (b : Bool) → f .first ≡ b
-      → packetOf f payload n
-      ≡ headerBytes (headOf f (ends f (length payload) n)) ++ intro b (typeByte (f .typ) (f .ic)) (part (f .«payload_used») (fitting f (length payload) n) payload)
+      → packetFor f payload n
+      ≡ headerBytes (headerFor f (ends f (length payload) n)) ++ intro b (typeByte (f .typ) (f .ic)) (part (f .«payload_used») (fitting f (length payload) n) payload)
   packet-with b e =
       ap
       (λ (c : Bool).
-      headerBytes (headOf f (ends f (length payload) n)) ++ intro c (typeByte (f .typ) (f .ic)) (part (f .«payload_used») (fitting f (length payload) n) payload))
+      headerBytes (headerFor f (ends f (length payload) n)) ++ intro c (typeByte (f .typ) (f .ic)) (part (f .«payload_used») (fitting f (length payload) n) payload))
       e

@@ -63,13 +63,13 @@ fitting f size n = min (size - f .«payload_used») (roomOf f n - lead (f .first
 abbrev pub ends : Fragmenter → ℕ → ℕ → Bool
 ends f size n = eqb (f .«payload_used» + fitting f size n) size
 
-abbrev pub headOf : Fragmenter → Bool → Header
-headOf f eom = record { key = keyUnder (f .src) (f .dest) (f .tag); som = f .first; eom = eom; seq = f .seq }
+abbrev pub headerFor : Fragmenter → Bool → Header
+headerFor f eom = record { key = keyUnder (f .src) (f .dest) (f .tag); som = f .first; eom = eom; seq = f .seq }
 
 -- the packet: header, with the first the type byte, and the body
-abbrev pub packetOf : Fragmenter → List ℕ → ℕ → List ℕ
-packetOf f payload n =
-    headerBytes (headOf f (ends f (length payload) n))
+abbrev pub packetFor : Fragmenter → List ℕ → ℕ → List ℕ
+packetFor f payload n =
+    headerBytes (headerFor f (ends f (length payload) n))
     ++ intro (f .first) (typeByte (f .typ) (f .ic)) (part (f .«payload_used») (fitting f (length payload) n) payload)
 
 -- after a packet that took n body bytes: sequence up by 1 modulo 4, first no more, done exactly with EOM
@@ -102,7 +102,7 @@ refused f e = record { result = record { next = f; output = Failed e (f .cookie)
 abbrev pub emitted : Fragmenter → List ℕ → ℕ → Step
 emitted f payload n = record {
   result = record { next = nextOf f (length payload) n; output = Packet (lead (f .first) + fitting f (length payload) n) };
-  bytes = packetOf f payload n;
+  bytes = packetFor f payload n;
 }
 
 -- 1. done: Complete with tag and cookie; 2. buffer under 5 (first) or 4 (later): NoSpace; 3. payload shorter than what was used: InvalidInput; 4. else a packet
@@ -115,14 +115,14 @@ stepOf f payload n =
 -- The same step in two parts: a plan, from the sizes of payload and buffer alone, and then the bytes that it writes. `stepOf` is the two together
 -- (`step-planned`).
 abbrev pub stillOf : Fragmenter → SendOutput → Plan
-stillOf f output = record { next = f; output = output; writes = false; header = headOf f false; kind = 0; from = 0; len = 0 }
+stillOf f output = record { next = f; output = output; writes = false; header = headerFor f false; kind = 0; from = 0; len = 0 }
 
 abbrev pub emitOf : Fragmenter → ℕ → ℕ → Plan
 emitOf f size n = record {
   next = nextOf f size n;
   output = Packet (lead (f .first) + fitting f size n);
   writes = true;
-  header = headOf f (ends f size n);
+  header = headerFor f (ends f size n);
   kind = typeByte (f .typ) (f .ic);
   from = f .«payload_used»;
   len = fitting f size n;

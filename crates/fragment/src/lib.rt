@@ -7,7 +7,7 @@ ghost use Prim.Native.Nat.{_+_, _-_, _≤_, _<_, _^_, min};
 ghost use lib.ListN.{length};
 ghost use Rattle.octets.specs.Bytes.{over, part};
 ghost use Rattle.mctp.specs.Header.{headerBytes, lead};
-ghost use Rattle.fragment.specs.Step.{newOf, advancedBy, headOf, Writable, stillOf, emitOf, planOf, writtenBy, stepOf};
+ghost use Rattle.fragment.specs.Step.{newOf, advancedBy, headerFor, Writable, stillOf, emitOf, planOf, writtenBy, stepOf};
 use mctp::Cookie;
 use mctp::Eid;
 use mctp::Error;
@@ -179,7 +179,7 @@ impl Fragmenter {
     }
 
     fn header(self, eom: bool) -> Header
-        ensures { λ r. ⌜ r ≡ headOf self eom ⌝ }
+        ensures { λ r. ⌜ r ≡ headerFor self eom ⌝ }
     {
         let tag = self.tag;
         let source = self.src;

@@ -14,15 +14,15 @@ use Rattle.mctp.specs.Terms.{cookieValue}
 use Rattle.slot.specs.declared.State.{State}
 use Rattle.slot.specs.declared.State.the-variants.{HandleOut}
 use Rattle.slot.specs.declared.Reassembler.{Reassembler}
-use Rattle.slot.specs.Slot.{restated, recookied}
+use Rattle.slot.specs.Slot.{withState, withSlotCookie}
 use Rattle.state.specs.declared.Sizes.{Sizes}
 use Rattle.state.specs.Slot.{SlotOk, issueNo}
-use Rattle.state.specs.Head.{reissued}
-use Rattle.state.specs.Stack.{Stack, Kept, Becomes, stackOf, slotAt, reslot, rehead}
+use Rattle.state.specs.Head.{withIssue}
+use Rattle.state.specs.Stack.{Stack, Kept, Becomes, stackOf, slotAt, withSlot, withHead}
 use Rattle.state.proofs.StackLaws.{slots-length, stays, andThen}
 use Rattle.slot.specs.declared.ReceiveHandle.{ReceiveHandle}
 use Rattle.handles.specs.declared.Done.{Done}
-use Rattle.handles.specs.declared.Done.the-variants.{Done as Well, Refused}
+use Rattle.handles.specs.declared.Done.the-variants.{Well, Refused}
 use Rattle.handles.specs.declared.Deferred.{Deferred}
 use Rattle.handles.specs.declared.Deferred.the-variants.{Found, Nothing}
 use Rattle.slot.specs.Handle.{nextIssue}
@@ -46,7 +46,7 @@ module _ (z : Sizes) (f : Reassembler → Reassembler) (h : ReceiveHandle) (b : 
   abbrev pub Handled : Done → List ℕ → Type 0
   Handled r b′ = (r ≡ handled f h (stackOf z b) .said) × Becomes z b b′ (handled f h (stackOf z b) .stack)
 
-  pub handled-good : {b′ : List ℕ} → isGood h (stackOf z b) ≡ true → Becomes z b b′ (reslot (h .index) (f (slotAt (h .index) (stackOf z b))) (stackOf z b)) → Handled Well b′
+  pub handled-good : {b′ : List ℕ} → isGood h (stackOf z b) ≡ true → Becomes z b b′ (withSlot (h .index) (f (slotAt (h .index) (stackOf z b))) (stackOf z b)) → Handled Well b′
   unfolding handled pick
   handled-good e p = rw e (refl, p)
 
@@ -61,7 +61,7 @@ module _ (z : Sizes) (f : Reassembler → Reassembler) (h : ReceiveHandle) (b : 
 
 -- a slot that has another state or another cookie is Ok
 abbrev changed : State → Cookie → Reassembler → Reassembler
-changed state cookie s = restated state (recookied cookie s)
+changed state cookie s = withState state (withSlotCookie cookie s)
 
 pub changed-ok : (B : ℕ) (s : Reassembler) → SlotOk B s → (state : State) (cookie : Cookie) → issueNo state < 2 ^ 64 → cookieValue cookie < 2 ^ 64 → SlotOk B (changed state cookie s)
 changed-ok B s ok state cookie n v = record {
@@ -78,10 +78,10 @@ changed-ok B s ok state cookie n v = record {
   issue = n;
 }
 
-pub restated-ok : (B : ℕ) (s : Reassembler) → SlotOk B s → (state : State) → issueNo state < 2 ^ 64 → SlotOk B (restated state s)
+pub restated-ok : (B : ℕ) (s : Reassembler) → SlotOk B s → (state : State) → issueNo state < 2 ^ 64 → SlotOk B (withState state s)
 restated-ok B s ok state n = changed-ok B s ok state (s .cookie) n (ok .value)
 
-pub recookied-ok : (B : ℕ) (s : Reassembler) → SlotOk B s → (cookie : Cookie) → cookieValue cookie < 2 ^ 64 → SlotOk B (recookied cookie s)
+pub recookied-ok : (B : ℕ) (s : Reassembler) → SlotOk B s → (cookie : Cookie) → cookieValue cookie < 2 ^ 64 → SlotOk B (withSlotCookie cookie s)
 recookied-ok B s ok cookie v = changed-ok B s ok (s .state) cookie (ok .issue) v
 
 -- a handle that goes out: the slot, then the count
@@ -89,11 +89,11 @@ module _ (z : Sizes) (b : List ℕ) (i : ℕ) where
   abbrev Taken : Deferred → List ℕ → Type 0
   Taken r b′ = (r ≡ takeOf i (stackOf z b) .said) × Becomes z b b′ (takeOf i (stackOf z b) .stack)
 
-  pub taken : (n : ℕ) {x y : List ℕ} → i < z .slots → n ≡ nextIssue (stackOf z b .head .issue) → Becomes z b x (reslot i (restated (HandleOut n) (slotAt i (stackOf z b))) (stackOf z b)) → Becomes z x y (rehead (reissued n (stackOf z x .head)) (stackOf z x)) → Taken (Found (record { index = i; issue = n })) y
+  pub taken : (n : ℕ) {x y : List ℕ} → i < z .slots → n ≡ nextIssue (stackOf z b .head .issue) → Becomes z b x (withSlot i (withState (HandleOut n) (slotAt i (stackOf z b))) (stackOf z b)) → Becomes z x y (withHead (withIssue n (stackOf z x .head)) (stackOf z x)) → Taken (Found (record { index = i; issue = n })) y
   unfolding takeOf pick
   taken n {x = x} {y = y} h e p q =
       let st = stackOf z b in
-      let r = andThen z (λ (t : Stack). rehead (reissued n (t .head)) t) b x y (reslot i (restated (HandleOut n) (slotAt i st)) st) p q in
+      let r = andThen z (λ (t : Stack). withHead (withIssue n (t .head)) t) b x y (withSlot i (withState (HandleOut n) (slotAt i st)) st) p q in
       rw (slots-length z b, lt-ltb i (z .slots) h, ← e) (refl, r)
 
   pub not-taken : z .slots ≤ i → Kept z b → Taken Nothing b

@@ -13,15 +13,15 @@ use Rattle.mctp.specs.declared.Cookie.{Cookie}
 use Rattle.mctp.specs.declared.Error.the-variants.{BadArgument, PoolShort}
 use Rattle.mctp.specs.Terms.{errorNo, tagOf, isOwner, cookieNo, cookieValue}
 use Rattle.mctp.specs.Answer.{Answer, gives, refuses, flagWord}
-use Rattle.slot.specs.declared.State.the-variants.{Done as Kept, HandleOut}
+use Rattle.slot.specs.declared.State.the-variants.{Done as Waiting, HandleOut}
 use Rattle.slot.specs.declared.Reassembler.{Reassembler}
-use Rattle.slot.specs.Slot.{blankSlot, handleIs, keptUnder, listed, restated, recookied}
+use Rattle.slot.specs.Slot.{blankSlot, handleIs, keptUnder, listed, withState, withSlotCookie}
 use Rattle.slot.specs.Search.{earliest}
-use Rattle.state.specs.Head.{reissued}
-use Rattle.state.specs.Stack.{Stack, slotAt, reslot}
+use Rattle.state.specs.Head.{withIssue}
+use Rattle.state.specs.Stack.{Stack, slotAt, withSlot}
 use Rattle.slot.specs.declared.ReceiveHandle.{ReceiveHandle}
 use Rattle.handles.specs.declared.Done.{Done}
-use Rattle.handles.specs.declared.Done.the-variants.{Done as Well, Refused}
+use Rattle.handles.specs.declared.Done.the-variants.{Well, Refused}
 use Rattle.handles.specs.declared.Message.{Message}
 use Rattle.handles.specs.declared.Fetched.{Fetched}
 use Rattle.handles.specs.declared.Fetched.the-variants.{Message as Fetch, Refused as Unfetched}
@@ -66,27 +66,27 @@ deferredAs Nothing = gives []
 unfoldable pub isGood : ReceiveHandle → Stack → Bool
 isGood h st = pick (ltb (h .index) (length (st .slots))) (handleIs (h .issue) (slotAt (h .index) st)) false
 
-pub record Outcome : Type 0 where
+pub record Handled : Type 0 where
   pub stack : Stack
   pub said : Done
 
 -- what a good handle's slot becomes; otherwise BadArgument
-unfoldable pub handled : (Reassembler → Reassembler) → ReceiveHandle → Stack → Outcome
+unfoldable pub handled : (Reassembler → Reassembler) → ReceiveHandle → Stack → Handled
 handled f h st =
-    pick (isGood h st) (record { stack = reslot (h .index) (f (slotAt (h .index) st)) st; said = Well })
+    pick (isGood h st) (record { stack = withSlot (h .index) (f (slotAt (h .index) st)) st; said = Well })
     (record { stack = st; said = Refused BadArgument })
 
 -- finish empties the slot
-abbrev pub finishOf : ReceiveHandle → Stack → Outcome
+abbrev pub finishOf : ReceiveHandle → Stack → Handled
 finishOf h st = handled (λ s. blankSlot) h st
 
 -- return keeps the message with no handle out and its old stamp
-abbrev pub returnOf : ReceiveHandle → Stack → Outcome
-returnOf h st = handled (restated Kept) h st
+abbrev pub returnOf : ReceiveHandle → Stack → Handled
+returnOf h st = handled (withState Waiting) h st
 
 -- set cookie changes that slot's cookie alone
-abbrev pub cookieOf : ReceiveHandle → Cookie → Stack → Outcome
-cookieOf h cookie st = handled (recookied cookie) h st
+abbrev pub setCookieOf : ReceiveHandle → Cookie → Stack → Handled
+setCookieOf h cookie st = handled (withSlotCookie cookie) h st
 
 -- the message in slot i, whose body lies at byte B i of the pool
 abbrev pub messageIn : ℕ → ℕ → Reassembler → Message
@@ -108,9 +108,9 @@ takeOf i st =
     pick (ltb i (length (st .slots)))
     (record {
       stack = record {
-        head = reissued (nextIssue (st .head .issue)) (st .head);
+        head = withIssue (nextIssue (st .head .issue)) (st .head);
         flows = st .flows;
-        slots = set (st .slots) i (restated (HandleOut (nextIssue (st .head .issue))) (slotAt i st));
+        slots = set (st .slots) i (withState (HandleOut (nextIssue (st .head .issue))) (slotAt i st));
       };
       said = Found (record { index = i; issue = nextIssue (st .head .issue) });
     })

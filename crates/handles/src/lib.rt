@@ -6,7 +6,7 @@ ghost use Prim.Native.Nat.{_+_, _≤_, _<_};
 ghost use lib.ListN.{length};
 ghost use Rattle.state.specs.Slot.{SlotOk};
 ghost use Rattle.state.specs.Stack.{Kept, Becomes, stackOf};
-ghost use Rattle.handles.specs.Handles.{isGood, handled, finishOf, returnOf, cookieOf, fetchOf, takeOf, bySourceOf, byCookieOf};
+ghost use Rattle.handles.specs.Handles.{isGood, handled, finishOf, returnOf, setCookieOf, fetchOf, takeOf, bySourceOf, byCookieOf};
 use mctp::Cookie;
 use mctp::Eid;
 use mctp::Error;
@@ -20,7 +20,7 @@ use state::Sizes;
 
 // A call that has nothing to tell but a refusal.
 pub enum Done {
-    Done,
+    Well,
     Refused(Error),
 }
 
@@ -86,7 +86,7 @@ pub fn fetch_message(state: &[u8], sizes: Sizes, pool: &[u8], handle: ReceiveHan
 }
 
 // A good handle's slot becomes `s`; otherwise BadArgument.
-fn keep(state: &mut [u8], sizes: Sizes, handle: ReceiveHandle, s: Reassembler) -> Done
+fn put_under(state: &mut [u8], sizes: Sizes, handle: ReceiveHandle, s: Reassembler) -> Done
     requires { ⌜ Kept sizes (now state) × SlotOk (sizes .body) s ⌝ }
     ensures { λ r. ⌜ (r ≡ handled (λ _. s) handle (stackOf sizes (now (state .entry))) .said) × Becomes sizes (now (state .entry)) (now (state .exit)) (handled (λ _. s) handle (stackOf sizes (now (state .entry))) .stack) ⌝ }
 {
@@ -94,7 +94,7 @@ fn keep(state: &mut [u8], sizes: Sizes, handle: ReceiveHandle, s: Reassembler) -
     if good {
         let i = handle.index;
         state::put_slot(state, sizes, i, s);
-        return Done::Done;
+        return Done::Well;
     }
     Done::Refused(Error::BadArgument)
 }
@@ -104,7 +104,7 @@ pub fn finished_receive(state: &mut [u8], sizes: Sizes, handle: ReceiveHandle) -
     requires { ⌜ Kept sizes (now state) ⌝ }
     ensures { λ r. ⌜ (r ≡ finishOf handle (stackOf sizes (now (state .entry))) .said) × Becomes sizes (now (state .entry)) (now (state .exit)) (finishOf handle (stackOf sizes (now (state .entry))) .stack) ⌝ }
 {
-    keep(state, sizes, handle, slot::blank())
+    put_under(state, sizes, handle, slot::blank())
 }
 
 // The handle comes back, and the message is kept.
@@ -114,17 +114,17 @@ pub fn return_handle(state: &mut [u8], sizes: Sizes, handle: ReceiveHandle) -> D
 {
     let i = handle.index;
     let s = state::slot_at(state, sizes, i);
-    keep(state, sizes, handle, s.return_handle())
+    put_under(state, sizes, handle, s.return_handle())
 }
 
 // That slot has another cookie.
 pub fn set_cookie(state: &mut [u8], sizes: Sizes, handle: ReceiveHandle, cookie: Cookie) -> Done
     requires { ⌜ Kept sizes (now state) ⌝ }
-    ensures { λ r. ⌜ (r ≡ cookieOf handle cookie (stackOf sizes (now (state .entry))) .said) × Becomes sizes (now (state .entry)) (now (state .exit)) (cookieOf handle cookie (stackOf sizes (now (state .entry))) .stack) ⌝ }
+    ensures { λ r. ⌜ (r ≡ setCookieOf handle cookie (stackOf sizes (now (state .entry))) .said) × Becomes sizes (now (state .entry)) (now (state .exit)) (setCookieOf handle cookie (stackOf sizes (now (state .entry))) .stack) ⌝ }
 {
     let i = handle.index;
     let s = state::slot_at(state, sizes, i);
-    keep(state, sizes, handle, s.set_cookie(cookie))
+    put_under(state, sizes, handle, s.set_cookie(cookie))
 }
 
 // The handle of slot i goes out, where there is a slot i.

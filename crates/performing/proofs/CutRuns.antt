@@ -24,7 +24,7 @@ use Rattle.mctp.proofs.Answers.{error-some}
 use Rattle.fragment.specs.declared.Fragmenter.{Fragmenter}
 use Rattle.fragment.specs.declared.Started.{Started}
 use Rattle.fragment.specs.declared.Started.the-variants.{Sends as Starts, Refused}
-use Rattle.fragment.specs.Step.{Step, Sound, stepOf, newOf, fresh, refused, emitted, fitting, ends, packetOf, advancedBy, nextOf}
+use Rattle.fragment.specs.Step.{Step, Sound, stepOf, newOf, fresh, refused, emitted, fitting, ends, packetFor, advancedBy, nextOf}
 use Rattle.fragment.specs.Answers.{wordsOf, startedAs, outputAs}
 use Rattle.fragment.specs.Cutting.{Carries}
 use Rattle.fragment.specs.Run.{wrote, written, after}
@@ -32,8 +32,8 @@ use Rattle.fragment.proofs.Steps.{finished}
 use Rattle.fragment.proofs.Cuts.{new-is, step-sound, lead-most, packet-size, cuts}
 use Rattle.state.specs.Stack.{Stack, stackOf, Kept}
 use Rattle.state.proofs.StackLaws.{head-ok}
-use Rattle.sending.specs.declared.Carried.{Carried}
-use Rattle.sending.specs.declared.Carried.the-variants.{Under, Refused as Untagged}
+use Rattle.sending.specs.declared.UnderTag.{UnderTag}
+use Rattle.sending.specs.declared.UnderTag.the-variants.{Under, Refused as Untagged}
 use Rattle.sending.specs.declared.Send.{Send}
 use Rattle.sending.specs.declared.SendTag.{SendTag}
 use Rattle.sending.specs.declared.SendTag.the-variants.{Fresh, Given}
@@ -60,7 +60,7 @@ module _ (q : Send) (f : Fragmenter) where
   unstarted : {own : Eid} {err : Error} → Refused err ≡ Starts f → New q own f
   unstarted e = let z : _≡_ {A = ℕ} 0 1 = cc in absurd (omega arith)
 
-  as-new : (c : Carried) (st : Stack) → sendAs q c st .said ≡ Starts f → New q (st .head .«own_eid») f
+  as-new : (c : UnderTag) (st : Stack) → sendAs q c st .said ≡ Starts f → New q (st .head .«own_eid») f
   unfolding sendAs
   as-new (Under tag) st e = record { tag = tag; mtu = _; seq = _; new = e }
   as-new (Untagged err) st e = unstarted e
@@ -155,8 +155,8 @@ module _ (w payload : List ℕ) (c : Cut) (r : Row w) where
       let m = lead-most (f .first) in
       let some : c .len ≡ 0 → ⊥ = λ e. omega arith in
       let z : eqb (c .len) 0 ≡ false = ne-eqb (c .len) 0 some in
-      let t : take (c .len) (c .left) ≡ packetOf f payload n =
-      ap (take (c .len)) left ∙ part-same 0 (c .len) (packetOf f payload n) (c .lent) (l ∙ sym len) (omega arith) in
+      let t : take (c .len) (c .left) ≡ packetFor f payload n =
+      ap (take (c .len)) left ∙ part-same 0 (c .len) (packetFor f payload n) (c .lent) (l ∙ sym len) (omega arith) in
       record {
         packet = rw (said, z) (ap (λ (p : List ℕ). p ∷ []) t);
         next = ap fragmenterOf same ∙ row-read (fitting f (length payload) n) (ends f (length payload) n) r;

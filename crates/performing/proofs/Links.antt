@@ -22,12 +22,12 @@ use Rattle.receiving.specs.Conclude.{receivedAs}
 use Rattle.receiving.specs.Receive.{Receipt, receiveOf}
 use Rattle.handles.specs.declared.Deferred.{Deferred}
 use Rattle.handles.specs.declared.Deferred.the-variants.{Found, Nothing}
-use Rattle.handles.specs.Handles.{Outcome, doneAs, fetchedAs, deferredAs, finishOf, returnOf, cookieOf, fetchOf, bySourceOf, byCookieOf}
+use Rattle.handles.specs.Handles.{Handled, doneAs, fetchedAs, deferredAs, finishOf, returnOf, setCookieOf, fetchOf, bySourceOf, byCookieOf}
 use Rattle.sending.specs.Sends.{Sent, unsent, startSendOf}
 use Rattle.updating.specs.Update.{updatedAs, updateOf}
 use Rattle.estack.specs.Basics.{setEidOf, localOf, cancelOf, freeTagsOf}
 use Rattle.promises.specs.Calls.{receive, elsewhere, update, startSend, cancelFlow, getDeferred, getDeferredByCookie, fetchMessage, finishedReceive, returnHandle, setCookie, setEid, eid, isLocalDest, freeTags, step, steps}
-use Rattle.rows.specs.Words.{lawful, sendOf}
+use Rattle.rows.specs.Words.{goodSend, sendOf}
 use Rattle.board.specs.Board.{board, startOf}
 use Rattle.performing.specs.Perform.{Lent, lent, Performs, tells, sendCalls}
 
@@ -35,7 +35,7 @@ use Rattle.performing.specs.Perform.{Lent, lent, Performs, tells, sendCa
 
 module _ (b b′ : List ℕ) (r : ℕ) where
   -- what the contract of such a call says
-  abbrev Did : (Stack → Outcome) → Type 0
+  abbrev Did : (Stack → Handled) → Type 0
   Did f = (r ≡ answerNo (doneAs (f (stackOf board b) .said))) × Becomes board b b′ (f (stackOf board b) .stack)
 
   pub finish-link : (h : ReceiveHandle) → Did (finishOf h) → (l : Lent) → Performs (finishedReceive h ∷ []) b b′ l l r
@@ -46,7 +46,7 @@ module _ (b b′ : List ℕ) (r : ℕ) where
   unfolding steps step tells
   return-link h e l = record { stack = e .1; pool = refl; said = e .0; other = refl; handle = refl; message = refl; fragmenter = refl }
 
-  pub cookie-link : (h : ReceiveHandle) (k : Cookie) → Did (cookieOf h k) → (l : Lent) → Performs (setCookie h k ∷ []) b b′ l l r
+  pub cookie-link : (h : ReceiveHandle) (k : Cookie) → Did (setCookieOf h k) → (l : Lent) → Performs (setCookie h k ∷ []) b b′ l l r
   unfolding steps step tells
   cookie-link h k e l = record { stack = e .1; pool = refl; said = e .0; other = refl; handle = refl; message = refl; fragmenter = refl }
 
@@ -129,7 +129,7 @@ module _ (b b′ : List ℕ) (r : ℕ) where
   pub send-link : (w p o n m f f′ : List ℕ) → Sent′ (startOf w (stackOf board b)) f f′
       → Performs (sendCalls w) b b′ (lent p o n m f) (lent p o n m f′) r
   unfolding startOf sendCalls pick steps step tells
-  send-link w p o n m f f′ e = go (lawful w) e
+  send-link w p o n m f f′ e = go (goodSend w) e
     where
       go : (t : Bool) → Sent′ (pick t (startSendOf (sendOf w) (stackOf board b)) (unsent (stackOf board b) (Unstarted InvalidInput))) f f′
           → Performs (pick t (startSend (sendOf w) ∷ []) []) b b′ (lent p o n m f) (lent p o n m f′) r

@@ -13,7 +13,7 @@ use Rattle.mctp.proofs.Answers.{error-some}
 use Rattle.slot.specs.Slot.{isEmpty}
 use Rattle.state.specs.Stack.{Stack, stackOf, Kept, Becomes}
 use Rattle.handles.specs.declared.Done.{Done}
-use Rattle.handles.specs.declared.Done.the-variants.{Done as Well, Refused}
+use Rattle.handles.specs.declared.Done.the-variants.{Well, Refused}
 use Rattle.handles.specs.Handles.{doneAs}
 use Rattle.estack.specs.Basics.{freshStack, newSays, NewMakes}
 use Rattle.promises.specs.Delivery.{allOf}

@@ -15,7 +15,7 @@ use Rattle.receiving.specs.Receive.{Receipt, receiveOf}
 use Rattle.handles.specs.Handles.{doneAs}
 use Rattle.estack.specs.Basics.{freshStack, newSays}
 use Rattle.promises.specs.Calls.{World, Call, receive, elsewhere, update, startSend, cancelFlow, getDeferred, getDeferredByCookie, fetchMessage, finishedReceive, returnHandle, setCookie, setEid, eid, isLocalDest, freeTags, steps, performed}
-use Rattle.rows.specs.Words.{word, narrow, isYes, tagFrom, cookieFrom, lawful, sendOf}
+use Rattle.rows.specs.Words.{word, narrow, isYes, tagFrom, cookieFrom, goodSend, sendOf}
 use Rattle.board.specs.Board.{board}
 
 -- what is lent beside the state: the pool that we watch, another buffer, and a row for each kind of answer
@@ -65,9 +65,9 @@ smallCalls op w bytes cookies =
     pick (ltb op 5) (ownCalls op w bytes)
     (pick (ltb op 12) (lookCalls op w cookies) (pick (ltb op 16) (handleCalls op w) (flowCalls op w)))
 
--- 5 a send, where the row is a lawful one
+-- 5 a send, where the row is a goodSend one
 unfoldable pub sendCalls : List ℕ → List Call
-sendCalls w = pick (lawful w) (startSend (sendOf w) ∷ []) []
+sendCalls w = pick (goodSend w) (startSend (sendOf w) ∷ []) []
 
 -- 9 a packet lent the pool, 19 a packet lent the other buffer, 12 fetch from the pool, 20 fetch from the other buffer. `pool` and `other` are the buffers'
 -- lengths

@@ -32,7 +32,7 @@ use Rattle.slot.specs.declared.ReceiveHandle.{ReceiveHandle}
 use Rattle.receiving.specs.declared.Received.the-variants.{More}
 use Rattle.slot.specs.Handle.{nextIssue}
 use Rattle.receiving.specs.Conclude.{saidOf, receivedAs}
-use Rattle.receiving.specs.Receive.{Receipt, settled, land, opening, gateOf, receiveAt, receiveBy, receiveOf}
+use Rattle.receiving.specs.Receive.{Receipt, settled, land, countedOpening, gateOf, receiveAt, receiveBy, receiveOf}
 use Rattle.promises.specs.Calls.{World, receive, step, receipt}
 use Rattle.handles.specs.Handles.{messageIn}
 use Rattle.promises.specs.Delivery.{Hands}
@@ -48,7 +48,7 @@ gathering K typ ic number n stamp cookie = record { state = Collecting; key = K;
 -- where all the tests pass, a receive is the entry into the slot
 receive-is : (B : ℕ) (st : Stack) (room : ℕ) (p : List ℕ) (h : Header) (j : ℕ) (s : Reassembler)
     → headerOf p ≡ Good h → B * length (st .slots) ≤ room → slotFor (Good h) (st .slots) ≡ j → j < length (st .slots) → gateOf j st h ≡ Pass s
-    → receiveOf B st room p ≡ land B j (opening (isEmpty (slotAt j st)) st) h p (Pass s)
+    → receiveOf B st room p ≡ land B j (countedOpening (isEmpty (slotAt j st)) st) h p (Pass s)
 unfolding receiveOf receiveBy receiveAt pick
 receive-is B st room p h j s d r q i g = rw (d, q, le-ltb room (B * length (st .slots)) r, lt-ltb j (length (st .slots)) i, g)
 
@@ -88,7 +88,7 @@ module _ (B : ℕ) (K : Key) (typ : MsgType) (ic : MsgIC) (cookie : Cookie) (t�
 
   module _ (bytes : List ℕ) (h : Header) (p : List ℕ) (w : World) (o : Poised bytes h p w) where
     st₁ : Stack
-    st₁ = opening (isEmpty (slotAt j (w .stack))) (w .stack)
+    st₁ = countedOpening (isEmpty (slotAt j (w .stack))) (w .stack)
 
     now₁ : EventStamp
     now₁ = next (st₁ .head .now)

@@ -27,11 +27,11 @@ use Rattle.slot.specs.Search.{slotFor}
 use Rattle.state.specs.Stack.{Stack, slotAt}
 use Rattle.flow_walks.specs.FlowWalks.{tableOf}
 use Rattle.sending.specs.declared.Send.{Send}
-use Rattle.sending.specs.declared.Carried.{Carried}
-use Rattle.sending.specs.declared.Carried.the-variants.{Under, Refused as Untagged}
+use Rattle.sending.specs.declared.UnderTag.{UnderTag}
+use Rattle.sending.specs.declared.UnderTag.the-variants.{Under, Refused as Untagged}
 use Rattle.sending.specs.declared.SendTag.{SendTag}
 use Rattle.sending.specs.declared.SendTag.the-variants.{Fresh, Given}
-use Rattle.receiving.specs.Receive.{Receipt, land, opening, gateOf, receiveAt, receiveBy, receiveOf}
+use Rattle.receiving.specs.Receive.{Receipt, land, countedOpening, gateOf, receiveAt, receiveBy, receiveOf}
 use Rattle.sending.specs.Sends.{Sent, ownedTag, givenTag, tagFor, sendAs, sendTagged, startSendOf}
 
 pub next-clock : (s : EventStamp) → next s .clock ≡ s .clock
@@ -40,7 +40,7 @@ next-clock s = pick-cases (λ (r : EventStamp). r .clock ≡ s .clock) (λ _. re
 
 -- ---- a receive
 
-pub opening-clock : (b : Bool) (st : Stack) → opening b st .head .now .clock ≡ st .head .now .clock
+pub opening-clock : (b : Bool) (st : Stack) → countedOpening b st .head .now .clock ≡ st .head .now .clock
 opening-clock b st = pick-cases (λ (r : Stack). r .head .now .clock ≡ st .head .now .clock) (λ _. next-clock (st .head .now)) (λ _. refl)
 
 module _ (B : ℕ) (st : Stack) (p : List ℕ) where
@@ -52,7 +52,7 @@ module _ (B : ℕ) (st : Stack) (p : List ℕ) where
   at-clock : (i : ℕ) (r : HeaderRead) → receiveAt B i st p r .stack .head .now .clock ≡ st .head .now .clock
   unfolding receiveAt
   at-clock i Bad = opening-clock (isEmpty (slotAt i st)) st
-  at-clock i (Good h) = land-clock i (opening (isEmpty (slotAt i st)) st) h (gateOf i st h) ∙ opening-clock (isEmpty (slotAt i st)) st
+  at-clock i (Good h) = land-clock i (countedOpening (isEmpty (slotAt i st)) st) h (gateOf i st h) ∙ opening-clock (isEmpty (slotAt i st)) st
 
   pub receive-clock : (room : ℕ) → receiveOf B st room p .stack .head .now .clock ≡ st .head .now .clock
   unfolding receiveOf receiveBy
@@ -93,7 +93,7 @@ same : (st : Stack) → Same st st
 same st = record { slots = refl; clock = refl }
 
 module _ (q : Send) where
-  as-same : (c : Carried) (st : Stack) → Same st (sendAs q c st .stack)
+  as-same : (c : UnderTag) (st : Stack) → Same st (sendAs q c st .stack)
   unfolding sendAs
   as-same (Under tag) st = record { slots = refl; clock = refl }
   as-same (Untagged err) st = same st

@@ -26,7 +26,7 @@ use Rattle.fragment.specs.Cutting.{bodyIn, saysSom}
 use Rattle.state.specs.Stack.{Stack, slotAt, ticked}
 use Rattle.slot.specs.Handle.{nextIssue}
 use Rattle.receiving.specs.Conclude.{saidOf}
-use Rattle.receiving.specs.Receive.{Receipt, settled, land, opening, gateOf, receiveAt, receiveBy, receiveOf}
+use Rattle.receiving.specs.Receive.{Receipt, settled, land, countedOpening, gateOf, receiveAt, receiveBy, receiveOf}
 use Rattle.promises.specs.Delivery.{cookieFor}
 use Rattle.promises.specs.History.{takes}
 use Rattle.promises.proofs.Facts.{no-both}
@@ -68,7 +68,7 @@ pub data Outcome (B : ℕ) (st : Stack) (p : List ℕ) (r : Receipt) : Type 0 wh
 
 -- ---- the whole
 
-pub opening-slots : (b : Bool) (st : Stack) → opening b st .slots ≡ st .slots
+pub opening-slots : (b : Bool) (st : Stack) → countedOpening b st .slots ≡ st .slots
 opening-slots b st = pick-cases (λ (r : Stack). r .slots ≡ st .slots) (λ _. refl) (λ _. refl)
 
 module _ (B : ℕ) (st : Stack) (p : List ℕ) (h : Header) (read : headerOf p ≡ Good h) (i : ℕ) (q : i < length (st .slots))
@@ -166,7 +166,7 @@ module _ (B : ℕ) (st : Stack) (p : List ℕ) where
   unfolding receiveAt
   lands Bad read i q f = quiet (opening-slots (isEmpty (slotAt i st)) st) refl refl
   lands (Good h) read i q f =
-      land-outcome h read i q (opening (isEmpty (slotAt i st)) st) (opening-slots (isEmpty (slotAt i st)) st)
+      land-outcome h read i q (countedOpening (isEmpty (slotAt i st)) st) (opening-slots (isEmpty (slotAt i st)) st)
       (opening-clock (isEmpty (slotAt i st)) st) (gateOf i st h) (gate-right st i h f)
 
   pub receive-outcome : (room : ℕ) → Outcome B st p (receiveOf B st room p)

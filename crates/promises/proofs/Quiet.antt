@@ -19,7 +19,7 @@ use Rattle.stamp.specs.Stamp.{expired, timeoutOf, isExpired}
 use Rattle.slot.specs.declared.State.{State}
 use Rattle.slot.specs.declared.State.the-variants.{Done}
 use Rattle.slot.specs.declared.Reassembler.{Reassembler}
-use Rattle.slot.specs.Slot.{blankSlot, collects, outState, doneState, handleTaken, isDone, isReply, keptUnder, listed, timeIn, slotTime, slotTimeout, restated, recookied}
+use Rattle.slot.specs.Slot.{blankSlot, collects, outState, doneState, handleTaken, isDone, isReply, keptUnder, listed, timeIn, slotTime, slotTimeout, withState, withSlotCookie}
 use Rattle.state.specs.Stack.{Stack}
 use Rattle.sending.specs.Sends.{startSendOf}
 use Rattle.estack.specs.Basics.{eidSet}
@@ -120,9 +120,9 @@ module _ (B : ℕ) (w : World) where
   kind (finishedReceive h) =
       silent (record { slots = touches-by st _ (out-spared st) (handled-touches (λ s. blankSlot) (λ s e. refl) h st); pool = refl; log = λ H. refl })
   kind (returnHandle h) =
-      silent (record { slots = touches-by st _ (out-spared st) (handled-touches (restated Done) (λ s e. refl) h st); pool = refl; log = λ H. refl })
+      silent (record { slots = touches-by st _ (out-spared st) (handled-touches (withState Done) (λ s e. refl) h st); pool = refl; log = λ H. refl })
   kind (setCookie h cookie) =
-      silent (record { slots = touches-by st _ (out-spared st) (handled-touches (recookied cookie) (λ s e. out-idle (s .state) e) h st); pool = refl; log = λ H. refl })
+      silent (record { slots = touches-by st _ (out-spared st) (handled-touches (withSlotCookie cookie) (λ s e. out-idle (s .state) e) h st); pool = refl; log = λ H. refl })
   kind (setEid n) = silent (record { slots = eid-unmoved (normalEid n) st; pool = refl; log = λ H. refl })
   kind eid = silent (record { slots = unmoved st; pool = refl; log = λ H. refl })
   kind (isLocalDest p) = silent (record { slots = unmoved st; pool = refl; log = λ H. refl })

@@ -19,7 +19,7 @@ use Rattle.stamp.specs.Stamp.{next, clocked, expired, timeoutOf}
 use Rattle.flows.specs.Tags.{bitsOf, freeTagOf}
 use Rattle.flows.specs.Table.{isFlow, newFlow, insertFlow, withTag, freshFlow, fixedFlow, setFlow, fadedFlow}
 use Rattle.slot.specs.declared.Reassembler.{Reassembler}
-use Rattle.slot.specs.Slot.{blankSlot, isReply, keptUnder, fadedSlot, restated, recookied}
+use Rattle.slot.specs.Slot.{blankSlot, isReply, keptUnder, fadedSlot, withState, withSlotCookie}
 use Rattle.slot.specs.Search.{slotFor}
 use Rattle.slot.specs.declared.State.the-variants.{Done as Kept}
 use Rattle.reassemble.specs.Enter.{isLocal, opening, gate, gateEmpty, gateReply, enter, append}
@@ -41,7 +41,7 @@ use Rattle.handles.specs.declared.Done.{Done}
 use Rattle.handles.specs.declared.Deferred.{Deferred}
 use Rattle.handles.specs.declared.Deferred.the-variants.{Found, Nothing}
 use Rattle.handles.specs.declared.Fetched.{Fetched}
-use Rattle.handles.specs.Handles.{Outcome, doneAs, fetchedAs, deferredAs, isGood, handled, fetchOf, bySourceOf, byCookieOf}
+use Rattle.handles.specs.Handles.{Handled, doneAs, fetchedAs, deferredAs, isGood, handled, fetchOf, bySourceOf, byCookieOf}
 use Rattle.estack.specs.Basics.{newSays, setEidOf, eidSet, cancelOf}
 use Rattle.promises.specs.Calls.{Call, receive, elsewhere, update, startSend, cancelFlow, getDeferred, getDeferredByCookie, fetchMessage, finishedReceive, returnHandle, setCookie, setEid, eid, isLocalDest, freeTags, World, with, step, receipt, performed}
 use Rattle.promises.specs.Refusals.{refusalsOf, placeOf, receiveNo, sendNo, cancelNo, saysNo, Among, Unstepped, still}
@@ -80,7 +80,7 @@ module _ (w : World) where
       → Stays (pick (isGood h (w .stack)) 0 3) (3 ∷ []) w (with (handled f h (w .stack) .stack) w) (doneAs (handled f h (w .stack) .said))
   unfolding handled
   handled-still f h =
-      pick-cases (λ (o : Outcome). Stays (pick (isGood h (w .stack)) 0 3) (3 ∷ []) w (with (o .stack) w) (doneAs (o .said))) (λ g. pick-true _ _ _ g)
+      pick-cases (λ (o : Handled). Stays (pick (isGood h (w .stack)) 0 3) (3 ∷ []) w (with (o .stack) w) (doneAs (o .said))) (λ g. pick-true _ _ _ g)
       (λ g. (pick-false _ _ _ g, record { among = sole refl; same = refl }))
 
   fetch-still : (B : ℕ) (h : ReceiveHandle) (room : ℕ) → Stays (saysNo B (fetchMessage h room) w) (3 ∷ 6 ∷ []) w w (fetchedAs (fetchOf B h (w .stack) room))
@@ -116,8 +116,8 @@ module _ (w : World) where
   stills B (getDeferredByCookie cookies) s = deferred-still (step B (getDeferredByCookie cookies) w) (byCookieOf cookies (w .stack) .said)
   stills B (fetchMessage h n) s = fetch-still B h n
   stills B (finishedReceive h) s = handled-still (λ s. blankSlot) h
-  stills B (returnHandle h) s = handled-still (restated Kept) h
-  stills B (setCookie h cookie) s = handled-still (recookied cookie) h
+  stills B (returnHandle h) s = handled-still (withState Kept) h
+  stills B (setCookie h cookie) s = handled-still (withSlotCookie cookie) h
   stills B (setEid n) s = eid-still B n
   stills B eid s = refl
   stills B (isLocalDest p) s = refl

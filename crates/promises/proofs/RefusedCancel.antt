@@ -19,7 +19,7 @@ use Rattle.slot.specs.declared.Reassembler.{Reassembler}
 use Rattle.slot.specs.Slot.{blankSlot, isReply, handleTaken}
 use Rattle.state.specs.Stack.{Stack}
 use Rattle.slot_walks.specs.SlotWalks.{swept, blocked}
-use Rattle.handles.specs.Handles.{Outcome, doneAs}
+use Rattle.handles.specs.Handles.{Handled, doneAs}
 use Rattle.estack.specs.Basics.{cancelOf}
 use Rattle.promises.specs.Calls.{World, cancelFlow, step, performed}
 use Rattle.promises.specs.Refusals.{Among, cancelNo, stops, sweptAt, Uncancelled, bad-tag, under-handle}
@@ -70,7 +70,7 @@ module _ (peer : Eid) (tag : TagValue) where
       ))
       (λ b. pick-false _ _ _ t ∙ pick-false _ _ _ (stop ∙ b)))
     where
-      P : Outcome → Type 0
+      P : Handled → Type 0
       P o = Says (cancelNo peer tag st) (Uncancels peer tag st (o .stack)) (doneAs (o .said))
 
   pub uncancelled : (st : Stack) (n : ℕ) (vs : List ℕ) → doneAs (cancelOf peer tag st .said) ≡ refuses n vs

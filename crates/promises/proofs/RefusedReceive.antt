@@ -28,7 +28,7 @@ use Rattle.reassemble.specs.declared.Gate.{Gate}
 use Rattle.reassemble.specs.declared.Gate.the-variants.{Shut, Pass}
 use Rattle.reassemble.specs.declared.Entry.{Entry}
 use Rattle.reassemble.specs.Enter.{opened, gate, gateEmpty, gateReply, enter, append, appended, begun, freed, outcomeOf}
-use Rattle.state.specs.Stack.{Stack, slotAt, reslot, ticked}
+use Rattle.state.specs.Stack.{Stack, slotAt, withSlot, ticked}
 use Rattle.slot.specs.Handle.{nextIssue}
 use Rattle.receiving.specs.Conclude.{receivedAs}
 use Rattle.receiving.specs.Receive.{Receipt, settled, land, receiveAt, receiveBy, receiveOf}
@@ -51,7 +51,7 @@ module _ (B : ℕ) (st : Stack) (room : ℕ) (p : List ℕ) (read : HeaderRead) 
 -- ---- a packet that has a slot
 
 module _ (B : ℕ) (st : Stack) (room : ℕ) (p : List ℕ) (h : Header) (i k : ℕ) (st₁ : Stack) (is : k ≡ dropped B (Good h) p (slotAt i st))
-    (drops : (n : ℕ) → dropped B (Good h) p (slotAt i st) ≡ n → isOne n (1 ∷ 2 ∷ []) ≡ true → Left B st room p (Good h) i n (reslot i blankSlot (ticked st₁))) where
+    (drops : (n : ℕ) → dropped B (Good h) p (slotAt i st) ≡ n → isOne n (1 ∷ 2 ∷ []) ≡ true → Left B st room p (Good h) i n (withSlot i blankSlot (ticked st₁))) where
   Ends : Entry → Type 0
   Ends e = Fate B st room p (Good h) i k (settled B i (ticked st₁) (h .key) p e)
 

@@ -29,20 +29,20 @@ use Rattle.flows.proofs.TagLaws.{free-counts, used-is, Told, searched}
 use Rattle.fragment.specs.declared.Started.{Started}
 use Rattle.fragment.specs.Step.{newOf}
 use Rattle.fragment.specs.Answers.{startedAs}
-use Rattle.state.specs.Head.{resequenced}
-use Rattle.state.specs.Stack.{Stack, rehead}
-use Rattle.flow_walks.specs.FlowWalks.{tableOf, retable}
+use Rattle.state.specs.Head.{withNextSeq}
+use Rattle.state.specs.Stack.{Stack, withHead}
+use Rattle.flow_walks.specs.FlowWalks.{tableOf, withTable}
 use Rattle.sending.specs.declared.Send.{Send}
-use Rattle.sending.specs.declared.Carried.{Carried}
-use Rattle.sending.specs.declared.Carried.the-variants.{Under, Refused as Untagged}
+use Rattle.sending.specs.declared.UnderTag.{UnderTag}
+use Rattle.sending.specs.declared.UnderTag.the-variants.{Under, Refused as Untagged}
 use Rattle.sending.specs.declared.SendTag.{SendTag}
 use Rattle.sending.specs.declared.SendTag.the-variants.{Fresh, Given}
 use Rattle.sending.specs.declared.SendMtu.{SendMtu}
 use Rattle.sending.specs.declared.SendMtu.the-variants.{AtMost}
-use Rattle.sending.specs.Sends.{Sent, badTag, mtuOf, carriedBy, sendUnder, ownedTag, givenTag, tagFor, sendAs, sendTagged, startSendOf}
+use Rattle.sending.specs.Sends.{Sent, badTag, mtuOf, underGranted, sendUnder, ownedTag, givenTag, tagFor, sendAs, sendTagged, startSendOf}
 use Rattle.estack.specs.Basics.{freeTagsOf}
 use Rattle.promises.specs.Calls.{World, startSend, step, performed}
-use Rattle.promises.specs.Refusals.{Among, firstOf, fullNo, flowNo, mtuNo, sendNo, Unsent, invalid, expiring, none-free, table-full, bad-mtu, remtu, tagAfter, untagged}
+use Rattle.promises.specs.Refusals.{Among, firstOf, fullNo, flowNo, mtuNo, sendNo, Unsent, invalid, expiring, none-free, table-full, bad-mtu, withMtu, tagAfter, untagged}
 use Rattle.promises.proofs.Facts.{no-both}
 use Rattle.promises.proofs.Refused.{Says, refusal, sole, first-none, first-some}
 
@@ -83,13 +83,13 @@ both true x x′ y y′ e f = e
 both false x x′ y y′ e f = f
 
 module _ (mtu : SendMtu) (q : Send) where
-  as-mtu : (c : Carried) (st : Stack) → sendAs (remtu mtu q) c st .stack ≡ sendAs q c st .stack
+  as-mtu : (c : UnderTag) (st : Stack) → sendAs (withMtu mtu q) c st .stack ≡ sendAs q c st .stack
   unfolding sendAs
   as-mtu (Under tag) st = refl
   as-mtu (Untagged err) st = refl
 
   -- it leaves the same stack
-  pub mtu-same : (st : Stack) → startSendOf (remtu mtu q) st .stack ≡ startSendOf q st .stack
+  pub mtu-same : (st : Stack) → startSendOf (withMtu mtu q) st .stack ≡ startSendOf q st .stack
   unfolding startSendOf
   mtu-same st =
       let t = tagFor (q .dest) (q .tag) (q .expires) (q .cookie) st in
@@ -111,7 +111,7 @@ module _ (q : Send) (st : Stack) where
 
   -- what comes of a send whose number is k, where it leaves what the send with an MTU of 5 does
   Fate : ℕ → Sent → Type 0
-  Fate k s = startSendOf (remtu (AtMost 5) q) st .stack ≡ s .stack → Says k (Unsends q st (s .stack)) (startedAs (s .said))
+  Fate k s = startSendOf (withMtu (AtMost 5) q) st .stack ≡ s .stack → Says k (Unsends q st (s .stack)) (startedAs (s .said))
 
   module _ (k : ℕ) (kind : q .typ .0 ≤ 127) where
     -- a tag that there is: the MTU decides
@@ -127,16 +127,16 @@ module _ (q : Send) (st : Stack) where
         (λ b. is ∙ pick-false _ _ _ a ∙ pick-false _ _ _ b))))
       where
         P : Started → Type 0
-        P s = Says k (Unsends q st (rehead (resequenced (st₁ .head)) st₁)) (startedAs s)
+        P s = Says k (Unsends q st (withHead (withNextSeq (st₁ .head)) st₁)) (startedAs s)
 
     module _ (is : k ≡ firstOf flow size) where
       -- what comes of a flow that is asked for
       Flows : Flowed → Type 0
-      Flows f = Fate k (sendAs q (carriedBy (f .granted)) (retable (f .table) st))
+      Flows f = Fate k (sendAs q (underGranted (f .granted)) (withTable (f .table) st))
 
       granted : (tag : TagValue) (t : Table) → tag .0 ≤ 7 → flow ≡ 0 → Flows (record { table = t; granted = Grant tag })
       unfolding Flows sendAs
-      granted tag t b f = under (Owned tag) (retable t st) b refl (is ∙ first-none flow size f)
+      granted tag t b f = under (Owned tag) (withTable t st) b refl (is ∙ first-none flow size f)
 
       -- the table with the counter at n, which is where the tag leaves it
       inserts : (tag : TagValue) (n : ℕ) → tag .0 ≤ 7 → tagAfter (q .tag) (st .head .«next_tag») ≡ n → (q .tag ≡ Fresh → 0 < freeTagsOf (q .dest) st)
@@ -149,7 +149,7 @@ module _ (q : Send) (st : Stack) where
             record {
               among = sole refl;
               left = table-full free (find-full f) refl
-                  (ap (λ (m : ℕ). retable (record { flows = st .flows; now = counted (q .expires) (st .head .now); counter = m }) st) (sym c));
+                  (ap (λ (m : ℕ). withTable (record { flows = st .flows; now = counted (q .expires) (st .head .now); counter = m }) st) (sym c));
             },
           ))
         where
@@ -170,7 +170,7 @@ module _ (q : Send) (st : Stack) where
             is ∙ first-some flow size 4 (ap (λ (t : SendTag). flowNo (q .dest) t st) e ∙ pick-false _ _ _ (ap (λ (m : ℕ). ltb 0 m) none)) refl,
             record {
               among = sole refl;
-              left = none-free e none refl (sym (ap (λ (t : SendTag). rehead (untagged t false (st .head)) st) e));
+              left = none-free e none refl (sym (ap (λ (t : SendTag). withHead (untagged t false (st .head)) st) e));
             },
           )
 

@@ -29,7 +29,7 @@ use Rattle.slot.specs.Slot.{blankSlot, emptyState, outState, slotTimeout}
 use Rattle.reassemble.specs.Enter.{appended, outcomeOf}
 use Rattle.fragment.specs.declared.Fragmenter.{Fragmenter}
 use Rattle.fragment.specs.Cutting.{bodyIn}
-use Rattle.fragment.specs.Step.{Step, packetOf, emitted, stepOf}
+use Rattle.fragment.specs.Step.{Step, packetFor, emitted, stepOf}
 use Rattle.state.specs.Stack.{Stack, slotAt, flowAt}
 use Rattle.slot.specs.declared.ReceiveHandle.{ReceiveHandle}
 use Rattle.receiving.specs.declared.Received.the-variants.{Message as Told}
@@ -54,7 +54,7 @@ use Rattle.promises.proofs.Bits.{howMany, all-bits}
 
 -- ---- one that refuses all
 
--- the first packet of a lawful message is taken, and by `hands-out` every later one
+-- the first packet of a goodSend message is taken, and by `hands-out` every later one
 pub not-refused : (B : ℕ) (K : Key) (typ : MsgType) (ic : MsgIC) (mtu : ℕ) (body p : List ℕ) (ps : List (List ℕ)) (gaps : List (List Call)) (w : World)
     → Lawful B K typ ic mtu body (p ∷ ps) gaps w → takes (receipt B p w .said) ≡ true
 unfolding Delivers
@@ -63,7 +63,7 @@ not-refused B K typ ic mtu body p (q ∷ ps) gaps w law = zero-takes (receipt B 
 
 -- ---- one that hands out the same message always
 
--- two lawful messages for which one and the same message is handed out are one: key, type, IC and body
+-- two goodSend messages for which one and the same message is handed out are one: key, type, IC and body
 pub not-always-one : (B : ℕ) (K K′ : Key) (typ typ′ : MsgType) (ic ic′ : MsgIC) (mtu mtu′ : ℕ) (body body′ : List ℕ) (ps ps′ : List (List ℕ))
     (gaps gaps′ : List (List Call)) (w w′ : World)
     → Lawful B K typ ic mtu body ps gaps w → Lawful B K′ typ′ ic′ mtu′ body′ ps′ gaps′ w′
@@ -78,7 +78,7 @@ not-always-one B K K′ typ typ′ ic ic′ mtu mtu′ body body′ ps ps′ gap
 
 -- a fragmenter that is not done, with room for its header and with its payload, writes its packet
 pub writes : (f : Fragmenter) (payload : List ℕ) (n : ℕ) → f .done ≡ false → lead (f .first) ≤ n → f .«payload_used» ≤ length payload
-    → stepOf f payload n .bytes ≡ packetOf f payload n
+    → stepOf f payload n .bytes ≡ packetFor f payload n
 unfolding stepOf
 writes f payload n d r u =
     ap (λ (s : Step). s .bytes)

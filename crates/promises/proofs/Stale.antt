@@ -35,12 +35,12 @@ use Rattle.reassemble.specs.declared.Outcome.the-variants.{More as Going, Whole
 use Rattle.reassemble.specs.declared.Entry.{Entry}
 use Rattle.reassemble.specs.declared.Gate.{Gate}
 use Rattle.reassemble.specs.declared.Gate.the-variants.{Shut, Pass}
-use Rattle.slot.specs.Slot.{blankSlot, outState, issueIs, handleIs, keptUnder, listed, fadedSlot, restated, recookied}
+use Rattle.slot.specs.Slot.{blankSlot, outState, issueIs, handleIs, keptUnder, listed, fadedSlot, withState, withSlotCookie}
 use Rattle.slot.specs.Search.{slotFor, earliest}
 use Rattle.reassemble.specs.Enter.{enter, appended, outcomeOf}
 use Rattle.fragment.specs.Cutting.{bodyIn}
 use Rattle.stamp.specs.Stamp.{next, clocked}
-use Rattle.state.specs.Stack.{Stack, slotAt, reslot, ticked, renow}
+use Rattle.state.specs.Stack.{Stack, slotAt, withSlot, ticked, withStamp}
 use Rattle.slot_walks.specs.SlotWalks.{swept}
 use Rattle.slot.specs.declared.ReceiveHandle.{ReceiveHandle}
 use Rattle.receiving.specs.declared.Received.the-variants.{Message as Told}
@@ -48,8 +48,8 @@ use Rattle.slot.specs.Handle.{nextIssue}
 use Rattle.receiving.specs.Conclude.{saidOf, issueAfter}
 use Rattle.receiving.specs.Receive.{Receipt, refuse, settled, land, gateOf, receiveAt, receiveBy, receiveOf}
 use Rattle.sending.specs.declared.Send.{Send}
-use Rattle.sending.specs.declared.Carried.{Carried}
-use Rattle.sending.specs.declared.Carried.the-variants.{Under, Refused as Untagged}
+use Rattle.sending.specs.declared.UnderTag.{UnderTag}
+use Rattle.sending.specs.declared.UnderTag.the-variants.{Under, Refused as Untagged}
 use Rattle.sending.specs.declared.SendTag.{SendTag}
 use Rattle.sending.specs.declared.SendTag.the-variants.{Fresh, Given}
 use Rattle.handles.specs.declared.Deferred.the-variants.{Found}
@@ -116,14 +116,14 @@ handled-numbers : (f : Reassembler → Reassembler) (h : ReceiveHandle) (st : St
     → Renumbered (st .head .issue) (slotAt (h .index) st .state) (f (slotAt (h .index) st) .state) → Numbers st (handled f h st .stack)
 unfolding handled
 handled-numbers f h st r =
-    pick-cases (λ (o : handles.Outcome). Numbers st (o .stack)) (λ _. stored st _ (h .index) (f (slotAt (h .index) st)) refl (le-refl (st .head .issue)) r)
+    pick-cases (λ (o : handles.Handled). Numbers st (o .stack)) (λ _. stored st _ (h .index) (f (slotAt (h .index) st)) refl (le-refl (st .head .issue)) r)
     (λ _. unmoved st)
 
 take-numbers : (i : ℕ) (st : Stack) → Numbers st (takeOf i st .stack)
 unfolding takeOf
 take-numbers i st =
     pick-cases (λ (r : Lookup). Numbers st (r .stack))
-    (λ _. stored st _ i (restated (HandleOut (nextIssue (st .head .issue))) (slotAt i st)) refl (next-grows (st .head .issue)) (fresh refl)) (λ _. unmoved st)
+    (λ _. stored st _ i (withState (HandleOut (nextIssue (st .head .issue))) (slotAt i st)) refl (next-grows (st .head .issue)) (fresh refl)) (λ _. unmoved st)
 
 source-numbers : (source : Eid) (tag : Tag) (st : Stack) → Numbers st (bySourceOf source tag st .stack)
 unfolding bySourceOf
@@ -161,7 +161,7 @@ update-numbers : (t : ℕ) (st : Stack) → Numbers st (updateOf t st .stack)
 unfolding updateOf checked Each
 update-numbers t st =
     pick-cases P (λ _. unmoved st)
-    (λ _. pick-cases P (λ _. kept st (renow (clocked t (st .head .now)) st) refl (le-refl (st .head .issue)))
+    (λ _. pick-cases P (λ _. kept st (withStamp (clocked t (st .head .now)) st) refl (le-refl (st .head .issue)))
     (λ _. record { each = faded-each (st .head .issue) t (st .slots); count = le-refl (st .head .issue) }))
   where
     P : Update → Type 0
@@ -174,13 +174,13 @@ cancel-numbers peer tag st =
     pick-cases P (λ _. unmoved st)
     (λ _. pick-cases P (λ _. record { each = walk; count = le-refl (st .head .issue) }) (λ _. record { each = walk; count = le-refl (st .head .issue) }))
   where
-    P : handles.Outcome → Type 0
+    P : handles.Handled → Type 0
     P o = Numbers st (o .stack)
 
 -- ---- by a send, by a new EID: the head alone
 
 module _ (q : Send) where
-  as-count : (c : Carried) (st : Stack) → sendAs q c st .stack .head .issue ≡ st .head .issue
+  as-count : (c : UnderTag) (st : Stack) → sendAs q c st .stack .head .issue ≡ st .head .issue
   unfolding sendAs
   as-count (Under tag) st = refl
   as-count (Untagged err) st = refl
@@ -284,8 +284,8 @@ numbers B (getDeferred source tag) w = source-numbers source tag (w .stack)
 numbers B (getDeferredByCookie cookies) w = take-numbers (earliest (λ s. listed cookies (s .cookie)) (w .stack .slots)) (w .stack)
 numbers B (fetchMessage h n) w = unmoved (w .stack)
 numbers B (finishedReceive h) w = handled-numbers (λ s. blankSlot) h (w .stack) (idle refl)
-numbers B (returnHandle h) w = handled-numbers (restated Done) h (w .stack) (idle refl)
-numbers B (setCookie h cookie) w = handled-numbers (recookied cookie) h (w .stack) (same refl)
+numbers B (returnHandle h) w = handled-numbers (withState Done) h (w .stack) (idle refl)
+numbers B (setCookie h cookie) w = handled-numbers (withSlotCookie cookie) h (w .stack) (same refl)
 numbers B (setEid n) w = eid-numbers (normalEid n) (w .stack)
 numbers B eid w = unmoved (w .stack)
 numbers B (isLocalDest p) w = unmoved (w .stack)
@@ -359,8 +359,8 @@ handled-stale : (f : Reassembler → Reassembler) (h : ReceiveHandle) (st : Stac
 unfolding handled
 handled-stale f h st n =
     let s = f (slotAt (h .index) st) in
-    pick-cases (λ (o : handles.Outcome). isGood h (o .stack) ≡ false)
-    (λ e. good-is h (reslot (h .index) s st)
+    pick-cases (λ (o : handles.Handled). isGood h (o .stack) ≡ false)
+    (λ e. good-is h (withSlot (h .index) s st)
     ∙ ap (handleIs (h .issue)) (getD-set-same (st .slots) (h .index) s blankSlot (out-in h st (sym (good-is h st) ∙ e))) ∙ idle-issue (h .issue) (s .state) n)
     (λ e. e)
 
@@ -368,4 +368,4 @@ pub finished-stale : (h : ReceiveHandle) (st : Stack) → isGood h (finishOf h s
 finished-stale h st = handled-stale (λ s. blankSlot) h st refl
 
 pub returned-stale : (h : ReceiveHandle) (st : Stack) → isGood h (returnOf h st .stack) ≡ false
-returned-stale h st = handled-stale (restated Done) h st refl
+returned-stale h st = handled-stale (withState Done) h st refl

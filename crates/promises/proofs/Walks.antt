@@ -20,13 +20,13 @@ use Rattle.stamp.specs.Stamp.{clocked, isExpired}
 use Rattle.slot.specs.declared.State.{State}
 use Rattle.slot.specs.declared.State.the-variants.{Empty, Collecting, Done, HandleOut}
 use Rattle.slot.specs.declared.Reassembler.{Reassembler}
-use Rattle.slot.specs.Slot.{blankSlot, collectingState, outState, issueIs, handleTaken, isDone, isReply, keptUnder, slotTimeout, fadedSlot, restated}
+use Rattle.slot.specs.Slot.{blankSlot, collectingState, outState, issueIs, handleTaken, isDone, isReply, keptUnder, slotTimeout, fadedSlot, withState}
 use Rattle.slot.specs.Search.{earliest}
-use Rattle.state.specs.Stack.{Stack, slotAt, renow}
+use Rattle.state.specs.Stack.{Stack, slotAt, withStamp}
 use Rattle.slot_walks.specs.SlotWalks.{swept}
 use Rattle.slot.specs.declared.ReceiveHandle.{ReceiveHandle}
 use Rattle.slot.specs.Handle.{nextIssue}
-use Rattle.handles.specs.Handles.{Outcome, Lookup, isGood, handled, takeOf, deferredOf, bySourceOf}
+use Rattle.handles.specs.Handles.{Handled, Lookup, isGood, handled, takeOf, deferredOf, bySourceOf}
 use Rattle.updating.specs.Update.{Update, checked, updateOf}
 use Rattle.estack.specs.Basics.{cancelOf}
 use Rattle.promises.proofs.Facts.{no-true}
@@ -99,7 +99,7 @@ pub handled-touches : (f : Reassembler → Reassembler) → ((s : Reassembler) �
     → (h : ReceiveHandle) (st : Stack) → Touches (λ s. handleTaken s ≡ true) st (handled f h st .stack)
 unfolding handled
 handled-touches f n h st =
-    pick-cases (λ (o : Outcome). Touches (λ s. handleTaken s ≡ true) st (o .stack))
+    pick-cases (λ (o : Handled). Touches (λ s. handleTaken s ≡ true) st (o .stack))
     (λ e. set-touches (λ s. handleTaken s ≡ true) st _ (h .index) (f (slotAt (h .index) st)) refl refl (n (slotAt (h .index) st) (good-out h st e)) (good-out h st e))
     (λ _. untouched st st refl (le-refl (st .head .now .clock)))
 
@@ -120,7 +120,7 @@ unfolding takeOf
 deferred-touches f st =
     let i = earliest f (st .slots) in
     pick-cases (λ (r : Lookup). Touches (λ s. isDone s ≡ true) st (r .stack))
-    (λ e. set-touches (λ s. isDone s ≡ true) st _ i (restated (HandleOut (nextIssue (st .head .issue))) (slotAt i st)) refl refl refl (earliest-done f (st .slots) (ltb-true i (length (st .slots)) e)))
+    (λ e. set-touches (λ s. isDone s ≡ true) st _ i (withState (HandleOut (nextIssue (st .head .issue))) (slotAt i st)) refl refl refl (earliest-done f (st .slots) (ltb-true i (length (st .slots)) e)))
     (λ _. untouched st st refl (le-refl (st .head .now .clock)))
 
 pub source-touches : (source : Eid) (tag : Tag) (st : Stack) → Touches (λ s. isDone s ≡ true) st (bySourceOf source tag st .stack)
@@ -147,7 +147,7 @@ pub update-touches : (t : ℕ) (st : Stack) → Touches (λ s. (st .head .now .c
 unfolding updateOf checked
 update-touches t st =
     pick-cases P (λ _. untouched st st refl (le-refl (st .head .now .clock)))
-    (λ e. pick-cases P (λ _. untouched st (renow (clocked t (st .head .now)) st) refl (clocked-later t (st .head .now)))
+    (λ e. pick-cases P (λ _. untouched st (withStamp (clocked t (st .head .now)) st) refl (clocked-later t (st .head .now)))
     (λ _. record {
       each = λ k. rw (getD-mapped (fadedSlot t) (st .slots) k blankSlot (faded-blank t))
           (changed-by (λ x. (ltb-false t (st .head .now .clock) e, x)) (faded-changes t (slotAt k st)));
@@ -192,5 +192,5 @@ module _ (peer : Eid) (tag : TagValue) where
       } in
       pick-cases P (λ _. untouched st st refl (le-refl (st .head .now .clock))) (λ _. pick-cases P (λ _. walk _ refl refl) (λ _. walk _ refl refl))
     where
-      P : Outcome → Type 0
+      P : Handled → Type 0
       P o = Touches (λ s. isReply peer tag s ≡ true) st (o .stack)

@@ -23,7 +23,7 @@ use Rattle.slot.specs.declared.ReceiveHandle.{ReceiveHandle}
 use Rattle.receiving.specs.Conclude.{receivedAs}
 use Rattle.sending.specs.declared.Send.{Send}
 use Rattle.receiving.specs.Receive.{Receipt, receiveOf}
-use Rattle.handles.specs.Handles.{doneAs, fetchedAs, deferredAs, fetchOf, finishOf, returnOf, cookieOf, bySourceOf, byCookieOf}
+use Rattle.handles.specs.Handles.{doneAs, fetchedAs, deferredAs, fetchOf, finishOf, returnOf, setCookieOf, bySourceOf, byCookieOf}
 use Rattle.sending.specs.Sends.{startSendOf}
 use Rattle.updating.specs.Update.{updatedAs, updateOf}
 use Rattle.estack.specs.Basics.{setEidOf, localOf, cancelOf, freeTagsOf}
@@ -68,7 +68,7 @@ step B (getDeferredByCookie cookies) w = with (byCookieOf cookies (w .stack) .st
 step B (fetchMessage h n) w = w
 step B (finishedReceive h) w = with (finishOf h (w .stack) .stack) w
 step B (returnHandle h) w = with (returnOf h (w .stack) .stack) w
-step B (setCookie h cookie) w = with (cookieOf h cookie (w .stack) .stack) w
+step B (setCookie h cookie) w = with (setCookieOf h cookie (w .stack) .stack) w
 step B (setEid n) w = with (setEidOf n (w .stack) .stack) w
 step B eid w = w
 step B (isLocalDest p) w = w
@@ -86,7 +86,7 @@ performed B (getDeferredByCookie cookies) w = deferredAs (byCookieOf cookies (w 
 performed B (fetchMessage h n) w = fetchedAs (fetchOf B h (w .stack) n)
 performed B (finishedReceive h) w = doneAs (finishOf h (w .stack) .said)
 performed B (returnHandle h) w = doneAs (returnOf h (w .stack) .said)
-performed B (setCookie h cookie) w = doneAs (cookieOf h cookie (w .stack) .said)
+performed B (setCookie h cookie) w = doneAs (setCookieOf h cookie (w .stack) .said)
 performed B (setEid n) w = doneAs (setEidOf n (w .stack) .said)
 performed B eid w = gives (w .stack .head .«own_eid» .0 ∷ [])
 performed B (isLocalDest p) w = gives (flagWord (localOf p (w .stack)) ∷ [])

@@ -24,8 +24,8 @@ use Rattle.reassemble.specs.Enter.{opening}
 use Rattle.fragment.specs.declared.Fragmenter.{Fragmenter}
 use Rattle.fragment.specs.Step.{Step}
 use Rattle.state.specs.declared.Head.{Head}
-use Rattle.state.specs.Head.{retagged, renowed}
-use Rattle.state.specs.Stack.{Stack, slotAt, rehead, reslot, ticked}
+use Rattle.state.specs.Head.{withNextTag, withNow}
+use Rattle.state.specs.Stack.{Stack, slotAt, withHead, withSlot, ticked}
 use Rattle.sending.specs.declared.Send.{Send}
 use Rattle.sending.specs.declared.SendTag.{SendTag}
 use Rattle.sending.specs.declared.SendTag.the-variants.{Fresh, Given}
@@ -135,10 +135,10 @@ pub data Left (B : ℕ) (st : Stack) (room : ℕ) (p : List ℕ) (r : HeaderRead
       → st′ ≡ ticked st → Left B st room p r i n st′
   -- an empty slot that the packet opens, 1 or 2: two events, and the slot is empty
   not-begun : B * length (st .slots) ≤ room → i < length (st .slots) → isEmpty (slotAt i st) ≡ true → asked r st ≡ 0
-      → dropped B r p (slotAt i st) ≡ n → isOne n (1 ∷ 2 ∷ []) ≡ true → st′ ≡ reslot i blankSlot (ticked (ticked st)) → Left B st room p r i n st′
+      → dropped B r p (slotAt i st) ≡ n → isOne n (1 ∷ 2 ∷ []) ≡ true → st′ ≡ withSlot i blankSlot (ticked (ticked st)) → Left B st room p r i n st′
   -- a slot that collects, 1 or 2: one event, and the slot is freed
   broken-off : B * length (st .slots) ≤ room → i < length (st .slots) → isEmpty (slotAt i st) ≡ false
-      → dropped B r p (slotAt i st) ≡ n → isOne n (1 ∷ 2 ∷ []) ≡ true → st′ ≡ reslot i blankSlot (ticked st) → Left B st room p r i n st′
+      → dropped B r p (slotAt i st) ≡ n → isOne n (1 ∷ 2 ∷ []) ≡ true → st′ ≡ withSlot i blankSlot (ticked st) → Left B st room p r i n st′
 
 -- the flows are as they were, and every slot but slot i
 pub record Spared (st : Stack) (i : ℕ) (st′ : Stack) : Type 0 where
@@ -148,8 +148,8 @@ pub record Spared (st : Stack) (i : ℕ) (st′ : Stack) : Type 0 where
 -- ---- what a refused send leaves
 
 -- the same send with another MTU
-abbrev pub remtu : SendMtu → Send → Send
-remtu mtu q = record { dest = q .dest; typ = q .typ; tag = q .tag; expires = q .expires; ic = q .ic; mtu = mtu; cookie = q .cookie }
+abbrev pub withMtu : SendMtu → Send → Send
+withMtu mtu q = record { dest = q .dest; typ = q .typ; tag = q .tag; expires = q .expires; ic = q .ic; mtu = mtu; cookie = q .cookie }
 
 -- a fresh tag turns the tag counter up by 1 modulo 8, any other leaves it
 abbrev pub tagAfter : SendTag → ℕ → ℕ
@@ -158,7 +158,7 @@ tagAfter (Given tag) n = n
 
 -- the head after a send that got no tag: the tag counter, and the event counter where an event counts
 abbrev pub untagged : SendTag → Bool → Head → Head
-untagged tag event h = retagged (tagAfter tag (h .«next_tag»)) (renowed (counted event (h .now)) h)
+untagged tag event h = withNextTag (tagAfter tag (h .«next_tag»)) (withNow (counted event (h .now)) h)
 
 -- no place of the table is free
 abbrev pub fullNo : Stack → ℕ
@@ -188,13 +188,13 @@ pub data Unsent (q : Send) (st : Stack) (n : ℕ) (st′ : Stack) : Type 0 where
   expiring : (tag : TagValue) → q .tag ≡ Given (Owned tag) → standing (q .dest) tag (st .flows) ≡ true
       → lasts (getD (st .flows) (flowPlace (q .dest) tag (st .flows)) noFlow) ≡ false → n ≡ 3 → st′ ≡ st → Unsent q st n st′
   -- a fresh tag, and none is free for the peer: the tag counter has turned, no event counts
-  none-free : q .tag ≡ Fresh → freeTagsOf (q .dest) st ≡ 0 → n ≡ 4 → st′ ≡ rehead (untagged (q .tag) false (st .head)) st → Unsent q st n st′
+  none-free : q .tag ≡ Fresh → freeTagsOf (q .dest) st ≡ 0 → n ≡ 4 → st′ ≡ withHead (untagged (q .tag) false (st .head)) st → Unsent q st n st′
   -- the table is full: the event of a flow that expires counts all the same
   table-full : (q .tag ≡ Fresh → 0 < freeTagsOf (q .dest) st) → find isFree (st .flows) ≡ length (st .flows) → n ≡ 4
-      → st′ ≡ rehead (untagged (q .tag) (q .expires) (st .head)) st → Unsent q st n st′
+      → st′ ≡ withHead (untagged (q .tag) (q .expires) (st .head)) st → Unsent q st n st′
   -- an MTU outside 5 to 255: the stack that the same send with an MTU of 5 leaves, flow and sequence as they now are
   bad-mtu : (mtuOf (q .mtu) (st .head .mtu) < 5) ⊎ (255 < mtuOf (q .mtu) (st .head .mtu)) → n ≡ 3
-      → st′ ≡ startSendOf (remtu (AtMost 5) q) st .stack → Unsent q st n st′
+      → st′ ≡ startSendOf (withMtu (AtMost 5) q) st .stack → Unsent q st n st′
 
 -- ---- what a refused cancel leaves
 

@@ -19,7 +19,7 @@ use Rattle.slot.specs.declared.State.the-variants.{Collecting, Done, HandleOut}
 use Rattle.slot.specs.declared.Reassembler.{Reassembler}
 use Rattle.reassemble.specs.declared.Outcome.the-variants.{Whole, Freed}
 use Rattle.reassemble.specs.declared.Entry.{Entry}
-use Rattle.slot.specs.Slot.{blankSlot, restated, slotTimeout}
+use Rattle.slot.specs.Slot.{blankSlot, withState, slotTimeout}
 use Rattle.reassemble.specs.Enter.{enter, append, opened, freed}
 
 -- the event's stamp
@@ -79,7 +79,7 @@ short-som = refl
 
 -- a slot stamped at 100
 abbrev stamped : State → Reassembler
-stamped state = restated state (entered one .slot)
+stamped state = withState state (entered one .slot)
 
 last-moment : slotTimeout 6100 (stamped Collecting) ≡ Left 0
 unfolding pick headerOf enter append timeoutOf expired

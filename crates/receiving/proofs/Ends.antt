@@ -9,8 +9,8 @@ use Rattle.mctp.specs.declared.Key.{Key}
 use Rattle.reassemble.specs.declared.Outcome.{Outcome}
 use Rattle.reassemble.specs.declared.Outcome.the-variants.{Whole}
 use Rattle.state.specs.declared.Sizes.{Sizes}
-use Rattle.state.specs.Head.{reissued}
-use Rattle.state.specs.Stack.{Stack, Becomes, stackOf, rehead, reflows}
+use Rattle.state.specs.Head.{withIssue}
+use Rattle.state.specs.Stack.{Stack, Becomes, stackOf, withHead, withFlows}
 use Rattle.state.proofs.StackLaws.{andThen}
 use Rattle.state.proofs.Steps.{becomes-as}
 use Rattle.receiving.specs.declared.Received.{Received}
@@ -19,13 +19,13 @@ use Rattle.receiving.specs.Conclude.{saidOf, flowsAfter, concluded}
 
 -- a whole message: its handle's number, then its flow's end
 pub ended : (z : Sizes) (b x y : List ℕ) (k : Key) (issue : ℕ) → issue ≡ nextIssue (stackOf z b .head .issue)
-    → Becomes z b x (rehead (reissued issue (stackOf z b .head)) (stackOf z b))
-    → Becomes z x y (reflows (flowsAfter Whole k (stackOf z x .flows)) (stackOf z x))
+    → Becomes z b x (withHead (withIssue issue (stackOf z b .head)) (stackOf z b))
+    → Becomes z x y (withFlows (flowsAfter Whole k (stackOf z x .flows)) (stackOf z x))
     → Becomes z b y (concluded Whole k (stackOf z b))
 ended z b x y k issue e p q =
     let st = stackOf z b in
-    becomes-as z b y (ap (λ (n : ℕ). record { head = reissued n (st .head); flows = flowsAfter Whole k (st .flows); slots = st .slots }) e)
-    (andThen z (λ (s : Stack). reflows (flowsAfter Whole k (s .flows)) s) b x y (rehead (reissued issue (st .head)) st) p q)
+    becomes-as z b y (ap (λ (n : ℕ). record { head = withIssue n (st .head); flows = flowsAfter Whole k (st .flows); slots = st .slots }) e)
+    (andThen z (λ (s : Stack). withFlows (flowsAfter Whole k (s .flows)) s) b x y (withHead (withIssue issue (st .head)) st) p q)
 
 -- what is said of an outcome, and what it makes of the stack beside its slot
 abbrev pub Concludes : Sizes → List ℕ → List ℕ → Key → ℕ → Received → Outcome → Type 0

@@ -18,7 +18,7 @@ use Rattle.reassemble.specs.Enter.{enter, append, appended, outcomeOf}
 use Rattle.state.specs.declared.Progress.{Progress}
 use Rattle.state.specs.Slot.{progress, progressOf}
 use Rattle.state.specs.Stack.{Stack, ticked}
-use Rattle.receiving.specs.Receive.{goesOn, settled, land}
+use Rattle.receiving.specs.Receive.{isMiddle, settled, land}
 
 record Goes (h : Header) (g : Progress) (n B : ℕ) : Type 0 where
   pub som : h .som ≡ false
@@ -26,8 +26,8 @@ record Goes (h : Header) (g : Progress) (n B : ℕ) : Type 0 where
   pub seq : h .seq ≡ g .seq
   pub room : n ≤ B - g .len
 
-goes : (h : Header) (g : Progress) (n B : ℕ) → goesOn h g n B ≡ true → Goes h g n B
-unfolding goesOn
+goes : (h : Header) (g : Progress) (n B : ℕ) → isMiddle h g n B ≡ true → Goes h g n B
+unfolding isMiddle
 goes h g n B =
     pick-cases (λ (b : Bool). b ≡ true → Goes h g n B) (λ _ e. false-true e)
     (λ som. pick-cases (λ (b : Bool). b ≡ true → Goes h g n B) (λ _ e. false-true e)
@@ -36,7 +36,7 @@ goes h g n B =
     (λ _ e. false-true e)))
 
 -- what such a packet has room for
-pub goes-room : (h : Header) (g : Progress) (n B : ℕ) → g .len ≤ B → goesOn h g n B ≡ true → g .len + n ≤ B
+pub goes-room : (h : Header) (g : Progress) (n B : ℕ) → g .len ≤ B → isMiddle h g n B ≡ true → g .len + n ≤ B
 goes-room h g n B l e = let r = goes h g n B e .room in omega arith
 
 -- what such a packet makes of a slot that held len bytes
@@ -47,7 +47,7 @@ module _ (B : ℕ) (h : Header) (p : List ℕ) (s : Reassembler) where
   abbrev taken : EventStamp → ℕ → Bool → Entry
   taken now issue eom = record { slot = appended eom now issue (length p - 4) s; at = s .len; from = 4; outcome = outcomeOf eom }
 
-  entry : (now : EventStamp) (issue : ℕ) → s .len ≤ B → goesOn h (progressOf s) (length p - 4) B ≡ true → enter B now issue s h p ≡ grown p s (h .seq) (s .len)
+  entry : (now : EventStamp) (issue : ℕ) → s .len ≤ B → isMiddle h (progressOf s) (length p - 4) B ≡ true → enter B now issue s h p ≡ grown p s (h .seq) (s .len)
   unfolding enter append pick
   entry now issue l e =
       let g = goes h (progressOf s) (length p - 4) B e in
@@ -59,14 +59,14 @@ module _ (B : ℕ) (h : Header) (p : List ℕ) (s : Reassembler) where
       ∙ ap (λ (q : ℕ). grown p s q (s .len)) (sym (g .seq))
 
   module _ (i : ℕ) (st : Stack) where
-    landed : s .len ≤ B → goesOn h (progressOf s) (length p - 4) B ≡ true → land B i st h p (Pass s) ≡ settled B i (ticked st) (h .key) p (grown p s (h .seq) (s .len))
+    landed : s .len ≤ B → isMiddle h (progressOf s) (length p - 4) B ≡ true → land B i st h p (Pass s) ≡ settled B i (ticked st) (h .key) p (grown p s (h .seq) (s .len))
     unfolding land
     landed l e = ap (settled B i (ticked st) (h .key) p) (entry _ _ l e)
 
     -- the event, then the slot with that sequence and length, and the packet's bytes behind the body
-    pub middle : (g : Progress) → g ≡ progressOf s → g .len ≤ B → goesOn h g (length p - 4) B ≡ true
+    pub middle : (g : Progress) → g ≡ progressOf s → g .len ≤ B → isMiddle h g (length p - 4) B ≡ true
         → land B i st h p (Pass s) ≡ settled B i (ticked st) (h .key) p (grown p s (h .seq) (g .len))
     middle g q =
         subst
-        (λ (x : Progress). x .len ≤ B → goesOn h x (length p - 4) B ≡ true → land B i st h p (Pass s) ≡ settled B i (ticked st) (h .key) p (grown p s (h .seq) (x .len)))
+        (λ (x : Progress). x .len ≤ B → isMiddle h x (length p - 4) B ≡ true → land B i st h p (Pass s) ≡ settled B i (ticked st) (h .key) p (grown p s (h .seq) (x .len)))
         (sym q) landed

@@ -12,7 +12,7 @@ use Rattle.flows.specs.Table.{removed}
 use Rattle.reassemble.specs.declared.Outcome.{Outcome}
 use Rattle.reassemble.specs.declared.Outcome.the-variants.{More as Going, Whole, Freed}
 use Rattle.slot.specs.Handle.{nextIssue, handleWords}
-use Rattle.state.specs.Head.{reissued}
+use Rattle.state.specs.Head.{withIssue}
 use Rattle.state.specs.Stack.{Stack}
 use Rattle.slot.specs.declared.ReceiveHandle.{ReceiveHandle}
 use Rattle.receiving.specs.declared.Received.{Received}
@@ -43,4 +43,4 @@ issueAfter (Freed err) n = n
 
 -- what a packet's outcome makes of the stack beside its slot
 abbrev pub concluded : Outcome → Key → Stack → Stack
-concluded o k st = record { head = reissued (issueAfter o (st .head .issue)) (st .head); flows = flowsAfter o k (st .flows); slots = st .slots }
+concluded o k st = record { head = withIssue (issueAfter o (st .head .issue)) (st .head); flows = flowsAfter o k (st .flows); slots = st .slots }

@@ -25,7 +25,7 @@ use Rattle.slot.specs.Search.{slotFor}
 use Rattle.reassemble.specs.Enter.{gate, enter}
 use Rattle.state.specs.declared.Progress.{Progress}
 use Rattle.state.specs.declared.Sizes.{Sizes}
-use Rattle.state.specs.Stack.{Stack, Becomes, slotAt, reslot, ticked}
+use Rattle.state.specs.Stack.{Stack, Becomes, slotAt, withSlot, ticked}
 use Rattle.receiving.specs.declared.Received.{Received}
 use Rattle.receiving.specs.declared.Received.the-variants.{Refused}
 use Rattle.slot.specs.Handle.{nextIssue}
@@ -44,7 +44,7 @@ refuse err st = record { stack = st; said = Refused err; at = 0; bytes = [] }
 -- one store of one slot, one write to the pool, then the flow
 abbrev pub settled : ℕ → ℕ → Stack → Key → List ℕ → Entry → Receipt
 settled B i st k p e = record {
-  stack = concluded (e .outcome) k (reslot i (e .slot) st);
+  stack = concluded (e .outcome) k (withSlot i (e .slot) st);
   said = saidOf (e .outcome) i (nextIssue (st .head .issue));
   at = B * i + e .at;
   bytes = drop (e .from) p;
@@ -57,12 +57,12 @@ land B i st h p (Pass s) =
     settled B i (ticked st) (h .key) p (enter B (ticked st .head .now) (nextIssue (st .head .issue)) s h p)
 
 -- a middle packet of n bytes: neither first nor last, in turn, with room
-unfoldable pub goesOn : Header → Progress → ℕ → ℕ → Bool
-goesOn h p n B = pick (h .som) false (pick (h .eom) false (pick (eqb (h .seq) (p .seq)) (leb n (B - p .len)) false))
+unfoldable pub isMiddle : Header → Progress → ℕ → ℕ → Bool
+isMiddle h p n B = pick (h .som) false (pick (h .eom) false (pick (eqb (h .seq) (p .seq)) (leb n (B - p .len)) false))
 
 -- step 2: for an empty slot one event is counted
-abbrev pub opening : Bool → Stack → Stack
-opening empty st = pick empty (ticked st) st
+abbrev pub countedOpening : Bool → Stack → Stack
+countedOpening empty st = pick empty (ticked st) st
 
 abbrev pub gateOf : ℕ → Stack → Header → Gate
 gateOf i st h =
@@ -70,8 +70,8 @@ gateOf i st h =
 
 -- a bad header comes to an empty slot alone
 unfoldable pub receiveAt : ℕ → ℕ → Stack → List ℕ → HeaderRead → Receipt
-receiveAt B i st p Bad = refuse InvalidInput (opening (isEmpty (slotAt i st)) st)
-receiveAt B i st p (Good h) = land B i (opening (isEmpty (slotAt i st)) st) h p (gateOf i st h)
+receiveAt B i st p Bad = refuse InvalidInput (countedOpening (isEmpty (slotAt i st)) st)
+receiveAt B i st p (Good h) = land B i (countedOpening (isEmpty (slotAt i st)) st) h p (gateOf i st h)
 
 -- step 1
 unfoldable pub receiveBy : ℕ → Stack → List ℕ → HeaderRead → Receipt

@@ -9,13 +9,13 @@ ghost use Rattle.mctp.specs.declared.HeaderRead.the-variants.{Good, Bad};
 ghost use Rattle.reassemble.specs.declared.Gate.the-variants.{Pass};
 ghost use Rattle.reassemble.specs.declared.Outcome.the-variants.{Whole};
 ghost use Rattle.slot.specs.Handle.{nextIssue};
-ghost use Rattle.state.specs.Stack.{reflows, Kept, Becomes, stackOf, slotAt};
+ghost use Rattle.state.specs.Stack.{withFlows, Kept, Becomes, stackOf, slotAt};
 ghost use Rattle.receiving.specs.Conclude.{concluded, saidOf, flowsAfter};
 ghost use Rattle.slot.specs.Slot.{isEmpty};
 ghost use Rattle.reassemble.specs.Enter.{gateEmpty, gateReply, Planned};
 ghost use Rattle.flows.specs.Table.{standing, flowCookie};
 ghost use Rattle.state.specs.Slot.{SlotOk, progressOf};
-ghost use Rattle.receiving.specs.Receive.{receiveOf, receiveBy, receiveAt, goesOn, land, settled, Makes};
+ghost use Rattle.receiving.specs.Receive.{receiveOf, receiveBy, receiveAt, isMiddle, land, settled, Makes};
 use mctp::Cookie;
 use mctp::Error;
 use mctp::Header;
@@ -74,17 +74,17 @@ fn receive_good(
 {
     let i = slot_walks::find_collecting(state, sizes, h.key);
     if i < sizes.slots {
-        return go_on(state, sizes, pool, packet, h, i);
+        return receive_collecting(state, sizes, pool, packet, h, i);
     }
     let j = slot_walks::find_empty(state, sizes);
     if j < sizes.slots {
-        return open(state, sizes, pool, packet, h, j);
+        return receive_opening(state, sizes, pool, packet, h, j);
     }
     Received::Refused(Error::NoSpace)
 }
 
 // A slot that collects the key: a middle packet goes the short way.
-fn go_on(
+fn receive_collecting(
     state: &mut [u8],
     sizes: Sizes,
     pool: &mut [u8],
@@ -97,18 +97,18 @@ fn go_on(
 {
     let p = state::progress_at(state, sizes, i);
     let n = packet.len() - 4;
-    let short = goes_on(h, p, n, sizes.body);
+    let short = is_middle(h, p, n, sizes.body);
     if short {
-        return carry(state, sizes, pool, packet, h, i, p);
+        return append_middle(state, sizes, pool, packet, h, i, p);
     }
     let s = state::slot_at(state, sizes, i);
-    enter(state, sizes, pool, packet, h, i, s)
+    feed(state, sizes, pool, packet, h, i, s)
 }
 
 // A middle packet of n bytes: neither first nor last, in turn, with room.
-fn goes_on(h: Header, p: Progress, n: usize, body: usize) -> bool
+fn is_middle(h: Header, p: Progress, n: usize, body: usize) -> bool
     requires { ⌜ p .len ≤ body ⌝ }
-    ensures { λ r. ⌜ r ≡ goesOn h p n body ⌝ }
+    ensures { λ r. ⌜ r ≡ isMiddle h p n body ⌝ }
 {
     if h.som {
         return false;
@@ -123,7 +123,7 @@ fn goes_on(h: Header, p: Progress, n: usize, body: usize) -> bool
 }
 
 // A middle packet: of its slot the sequence and the length alone change.
-fn carry(
+fn append_middle(
     state: &mut [u8],
     sizes: Sizes,
     pool: &mut [u8],
@@ -132,7 +132,7 @@ fn carry(
     i: usize,
     p: Progress,
 ) -> Received
-    requires { ⌜ Kept sizes (now state) × (4 ≤ length (now packet)) × (sizes .body * sizes .slots ≤ length (now pool)) × (i < sizes .slots) × (p ≡ progressOf (slotAt i (stackOf sizes (now state)))) × (p .len ≤ sizes .body) × (goesOn h p (length (now packet) - 4) (sizes .body) ≡ true) ⌝ }
+    requires { ⌜ Kept sizes (now state) × (4 ≤ length (now packet)) × (sizes .body * sizes .slots ≤ length (now pool)) × (i < sizes .slots) × (p ≡ progressOf (slotAt i (stackOf sizes (now state)))) × (p .len ≤ sizes .body) × (isMiddle h p (length (now packet) - 4) (sizes .body) ≡ true) ⌝ }
     ensures { λ r. ⌜ Makes sizes (land (sizes .body) i (stackOf sizes (now (state .entry))) h (now (packet .entry)) (Pass (slotAt i (stackOf sizes (now (state .entry)))))) r (now (state .entry)) (now (state .exit)) (now (pool .entry)) (now (pool .exit)) ⌝ }
 {
     let n = packet.len() - 4;
@@ -147,7 +147,7 @@ fn carry(
 }
 
 // Step 2: an empty slot counts one event, and asks what it asks.
-fn open(
+fn receive_opening(
     state: &mut [u8],
     sizes: Sizes,
     pool: &mut [u8],
@@ -158,15 +158,15 @@ fn open(
     requires { ⌜ Kept sizes (now state) × (h .key .tag .0 < 8) × (h .seq < 4) × (4 ≤ length (now packet)) × (sizes .body * sizes .slots ≤ length (now pool)) × (i < sizes .slots) × (isEmpty (slotAt i (stackOf sizes (now state))) ≡ true) ⌝ }
     ensures { λ r. ⌜ Makes sizes (receiveAt (sizes .body) i (stackOf sizes (now (state .entry))) (now (packet .entry)) (Good h)) r (now (state .entry)) (now (state .exit)) (now (pool .entry)) (now (pool .exit)) ⌝ }
 {
-    let gate = gate_at(state, sizes, h);
+    let gate = gate_empty(state, sizes, h);
     state::tick(state, sizes);
     match gate {
         Gate::Shut(err) => Received::Refused(err),
-        Gate::Pass(s) => enter(state, sizes, pool, packet, h, i, s),
+        Gate::Pass(s) => feed(state, sizes, pool, packet, h, i, s),
     }
 }
 
-fn gate_at(state: &[u8], sizes: Sizes, h: Header) -> Gate
+fn gate_empty(state: &[u8], sizes: Sizes, h: Header) -> Gate
     requires { ⌜ Kept sizes (now state) ⌝ }
     ensures { λ r. ⌜ r ≡ gateEmpty (stackOf sizes (now (state .entry)) .head .«own_eid») h (standing (h .key .source) (h .key .tag) (stackOf sizes (now (state .entry)) .flows)) (flowCookie (h .key .source) (h .key .tag) (stackOf sizes (now (state .entry)) .flows)) ⌝ }
 {
@@ -197,7 +197,7 @@ fn gate_by_flow(state: &[u8], sizes: Sizes, h: Header) -> Gate
 }
 
 // Steps 3 to 6: one event is counted, and the packet enters slot i, which is s.
-fn enter(
+fn feed(
     state: &mut [u8],
     sizes: Sizes,
     pool: &mut [u8],
@@ -243,7 +243,7 @@ fn settle(
 // A reply that is whole ends its flow.
 fn close(state: &mut [u8], sizes: Sizes, key: Key)
     requires { ⌜ Kept sizes (now state) ⌝ }
-    ensures { λ _. ⌜ Becomes sizes (now (state .entry)) (now (state .exit)) (reflows (flowsAfter Whole key (stackOf sizes (now (state .entry)) .flows)) (stackOf sizes (now (state .entry)))) ⌝ }
+    ensures { λ _. ⌜ Becomes sizes (now (state .entry)) (now (state .exit)) (withFlows (flowsAfter Whole key (stackOf sizes (now (state .entry)) .flows)) (stackOf sizes (now (state .entry)))) ⌝ }
 {
     if key.owner {
         return;

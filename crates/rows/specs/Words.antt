@@ -40,8 +40,8 @@ cookieFrom has value = pick has (Given (record { 0 = value })) Absent
 -- and 2 for an unowned one that is given.
 
 -- destination and type are bytes, the kind of tag is one of the three, and a tag that is given is a byte
-unfoldable pub lawful : List ℕ → Bool
-lawful w =
+unfoldable pub goodSend : List ℕ → Bool
+goodSend w =
     pick (ltb 255 (word 0 w)) false
     (pick (ltb 255 (word 1 w)) false (pick (ltb 2 (word 2 w)) false (pick (eqb (word 2 w) 0) true (ltb (word 3 w) 256))))
 

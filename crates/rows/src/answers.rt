@@ -26,7 +26,7 @@ pub fn done_no(d: Done) -> u8
     ensures { λ r. ⌜ r ≡ answerNo (doneAs d) ⌝ }
 {
     match d {
-        Done::Done => 0,
+        Done::Well => 0,
         Done::Refused(err) => err.number(),
     }
 }

@@ -16,7 +16,7 @@ ghost use Rattle.mctp.specs.Answer.{flagWord};
 ghost use Rattle.fragment.specs.Answers.{wordsOf};
 ghost use Rattle.slot.specs.Handle.{handleWords};
 ghost use Rattle.handles.specs.Handles.{messageWords};
-ghost use Rattle.rows.specs.Words.{isYes, narrow, tagFrom, cookieFrom, advancedRow, fragmenterOf, lawful, sendOf, sendTagFrom, sendMtuFrom};
+ghost use Rattle.rows.specs.Words.{isYes, narrow, tagFrom, cookieFrom, advancedRow, fragmenterOf, goodSend, sendOf, sendTagFrom, sendMtuFrom};
 use fragment::Fragmenter;
 use handles::Message;
 use mctp::AppCookie;
@@ -77,8 +77,8 @@ pub fn cookie_from(has: bool, value: u64) -> Cookie
 // ---- a send
 
 // Every number that stands for a byte is one, and the kind of tag is there. The tag of a fresh one is not looked at.
-pub fn is_lawful(w: &[u64; 10]) -> bool
-    ensures { λ r. ⌜ r ≡ lawful (now (w .entry)) ⌝ }
+pub fn is_good_send(w: &[u64; 10]) -> bool
+    ensures { λ r. ⌜ r ≡ goodSend (now (w .entry)) ⌝ }
 {
     if 255 < w[0] {
         return false;

@@ -16,7 +16,7 @@ use Rattle.fragment.specs.declared.Started.the-variants.{Refused}
 use Rattle.state.specs.declared.Sizes.{Sizes}
 use Rattle.state.specs.Stack.{Stack, Becomes, stackOf}
 use Rattle.state.proofs.Steps.{Met, then-says}
-use Rattle.sending.specs.declared.Carried.the-variants.{Under, Refused as Untagged}
+use Rattle.sending.specs.declared.UnderTag.the-variants.{Under, Refused as Untagged}
 use Rattle.sending.specs.declared.Send.{Send}
 use Rattle.sending.specs.Sends.{Tagged, badTag, sendUnder, sendAs, sendTagged, givenTag, tagFor, startSendOf}
 

@@ -19,11 +19,11 @@ use Rattle.flows.specs.Table.{setFlow}
 use Rattle.fragment.specs.declared.Started.{Started}
 use Rattle.fragment.specs.declared.Started.the-variants.{Refused}
 use Rattle.fragment.specs.Step.{newOf}
-use Rattle.state.specs.Head.{resequenced}
-use Rattle.state.specs.Stack.{Stack, rehead}
-use Rattle.flow_walks.specs.FlowWalks.{tableOf, retable}
-use Rattle.sending.specs.declared.Carried.{Carried}
-use Rattle.sending.specs.declared.Carried.the-variants.{Under, Refused as Untagged}
+use Rattle.state.specs.Head.{withNextSeq}
+use Rattle.state.specs.Stack.{Stack, withHead}
+use Rattle.flow_walks.specs.FlowWalks.{tableOf, withTable}
+use Rattle.sending.specs.declared.UnderTag.{UnderTag}
+use Rattle.sending.specs.declared.UnderTag.the-variants.{Under, Refused as Untagged}
 use Rattle.sending.specs.declared.Send.{Send}
 use Rattle.sending.specs.declared.SendTag.{SendTag}
 use Rattle.sending.specs.declared.SendTag.the-variants.{Fresh, Given}
@@ -50,24 +50,24 @@ mtuOf (AtMost n) mtu = min mtu n
 -- a fragmenter under that tag, or BadArgument for the MTU; the sequence has gone up either way
 abbrev pub sendUnder : Send → Tag → Stack → Sent
 sendUnder q tag st = record {
-  stack = rehead (resequenced (st .head)) st;
-  said = newOf (q .typ) (st .head .«own_eid») (q .dest) tag (mtuOf (q .mtu) (st .head .mtu)) (q .cookie) (q .ic) (resequenced (st .head) .«next_seq»);
+  stack = withHead (withNextSeq (st .head)) st;
+  said = newOf (q .typ) (st .head .«own_eid») (q .dest) tag (mtuOf (q .mtu) (st .head .mtu)) (q .cookie) (q .ic) (withNextSeq (st .head) .«next_seq»);
 }
 
 -- the tag that a message goes out under, or why there is none, and the stack then
 pub record Tagged : Type 0 where
   pub stack : Stack
-  pub said : Carried
+  pub said : UnderTag
 
-abbrev pub carriedBy : Granted → Carried
-carriedBy (Grant tag) = Under (Owned tag)
-carriedBy (Ungranted err) = Untagged err
+abbrev pub underGranted : Granted → UnderTag
+underGranted (Grant tag) = Under (Owned tag)
+underGranted (Ungranted err) = Untagged err
 
 -- for an owned tag, the flow
 unfoldable pub ownedTag : Eid → Wish → Bool → Cookie → Stack → Tagged
 ownedTag dest wish expires cookie st = record {
-  stack = retable (setFlow dest wish expires cookie (tableOf st) .table) st;
-  said = carriedBy (setFlow dest wish expires cookie (tableOf st) .granted);
+  stack = withTable (setFlow dest wish expires cookie (tableOf st) .table) st;
+  said = underGranted (setFlow dest wish expires cookie (tableOf st) .granted);
 }
 
 -- the other side's tag needs no flow
@@ -80,7 +80,7 @@ tagFor dest Fresh expires cookie st = ownedTag dest AnyTag expires cookie st
 tagFor dest (Given tag) expires cookie st = givenTag dest tag expires cookie st
 
 -- under the tag that there is; a refusal of the flow ends the send
-unfoldable pub sendAs : Send → Carried → Stack → Sent
+unfoldable pub sendAs : Send → UnderTag → Stack → Sent
 sendAs q (Under tag) st = sendUnder q tag st
 sendAs q (Untagged err) st = unsent st (Refused err)
 

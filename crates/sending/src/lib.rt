@@ -40,7 +40,7 @@ pub struct Send {
 }
 
 // The tag that a message goes out under, or why there is none.
-pub enum Carried {
+pub enum UnderTag {
     Under(Tag),
     Refused(Error),
 }
@@ -84,14 +84,14 @@ fn owned_tag(
     wish: Wish,
     expires: bool,
     cookie: Cookie,
-) -> Carried
+) -> UnderTag
     requires { ⌜ Kept sizes (now state) ⌝ }
     ensures { λ r. ⌜ (r ≡ ownedTag dest wish expires cookie (stackOf sizes (now (state .entry))) .said) × Becomes sizes (now (state .entry)) (now (state .exit)) (ownedTag dest wish expires cookie (stackOf sizes (now (state .entry))) .stack) ⌝ }
 {
     let granted = flow_walks::set_flow(state, sizes, dest, wish, expires, cookie);
     match granted {
-        Granted::Tag(t) => Carried::Under(Tag::Owned(t)),
-        Granted::Refused(err) => Carried::Refused(err),
+        Granted::Tag(t) => UnderTag::Under(Tag::Owned(t)),
+        Granted::Refused(err) => UnderTag::Refused(err),
     }
 }
 
@@ -102,13 +102,13 @@ fn given_tag(
     tag: Tag,
     expires: bool,
     cookie: Cookie,
-) -> Carried
+) -> UnderTag
     requires { ⌜ Kept sizes (now state) ⌝ }
     ensures { λ r. ⌜ (r ≡ givenTag dest tag expires cookie (stackOf sizes (now (state .entry))) .said) × Becomes sizes (now (state .entry)) (now (state .exit)) (givenTag dest tag expires cookie (stackOf sizes (now (state .entry))) .stack) ⌝ }
 {
     match tag {
         Tag::Owned(t) => owned_tag(state, sizes, dest, Wish::Fixed(t), expires, cookie),
-        Tag::Unowned(_) => Carried::Under(tag),
+        Tag::Unowned(_) => UnderTag::Under(tag),
     }
 }
 
@@ -120,7 +120,7 @@ fn tag_for(
     tag: SendTag,
     expires: bool,
     cookie: Cookie,
-) -> Carried
+) -> UnderTag
     requires { ⌜ Kept sizes (now state) ⌝ }
     ensures { λ r. ⌜ (r ≡ tagFor dest tag expires cookie (stackOf sizes (now (state .entry))) .said) × Becomes sizes (now (state .entry)) (now (state .exit)) (tagFor dest tag expires cookie (stackOf sizes (now (state .entry))) .stack) ⌝ }
 {
@@ -146,7 +146,7 @@ pub fn start_send(state: &mut [u8], sizes: Sizes, send: Send) -> Started
     let cookie = send.cookie;
     let carried = tag_for(state, sizes, send.dest, tag, send.expires, cookie);
     match carried {
-        Carried::Under(t) => send_under(state, sizes, send, t),
-        Carried::Refused(err) => Started::Refused(err),
+        UnderTag::Under(t) => send_under(state, sizes, send, t),
+        UnderTag::Refused(err) => Started::Refused(err),
     }
 }

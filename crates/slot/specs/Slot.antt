@@ -124,8 +124,8 @@ slotTimeout now s = timeIn (s .state) (timeoutOf (s .stamp) now slotTime)
 unfoldable pub fadedSlot : ℕ → Reassembler → Reassembler
 fadedSlot now s = pick (isExpired (slotTimeout now s)) blankSlot s
 
-abbrev pub restated : State → Reassembler → Reassembler
-restated state s = record { state = state; key = s .key; typ = s .typ; ic = s .ic; «next_seq» = s .«next_seq»; len = s .len; cookie = s .cookie; stamp = s .stamp }
+abbrev pub withState : State → Reassembler → Reassembler
+withState state s = record { state = state; key = s .key; typ = s .typ; ic = s .ic; «next_seq» = s .«next_seq»; len = s .len; cookie = s .cookie; stamp = s .stamp }
 
-abbrev pub recookied : Cookie → Reassembler → Reassembler
-recookied cookie s = record { state = s .state; key = s .key; typ = s .typ; ic = s .ic; «next_seq» = s .«next_seq»; len = s .len; cookie = cookie; stamp = s .stamp }
+abbrev pub withSlotCookie : Cookie → Reassembler → Reassembler
+withSlotCookie cookie s = record { state = s .state; key = s .key; typ = s .typ; ic = s .ic; «next_seq» = s .«next_seq»; len = s .len; cookie = cookie; stamp = s .stamp }

@@ -4,7 +4,7 @@
 ghost use mathlib.Core.Path.{_≡_};
 ghost use mathlib.Core.Bool.{false};
 ghost use Rattle.slot.specs.Handle.{nextIssue};
-ghost use Rattle.slot.specs.Slot.{blankSlot, stateNo, isEmpty, isDone, handleIs, handleTaken, collects, isReply, keptUnder, slotTimeout, restated, recookied};
+ghost use Rattle.slot.specs.Slot.{blankSlot, stateNo, isEmpty, isDone, handleIs, handleTaken, collects, isReply, keptUnder, slotTimeout, withState, withSlotCookie};
 use mctp::Cookie;
 use mctp::Eid;
 use mctp::Key;
@@ -143,7 +143,7 @@ impl Reassembler {
 
     // The record in another state, under another cookie.
     fn with(self, state: State, cookie: Cookie) -> Reassembler
-        ensures { λ r. ⌜ r ≡ restated state (recookied cookie self) ⌝ }
+        ensures { λ r. ⌜ r ≡ withState state (withSlotCookie cookie self) ⌝ }
     {
         let key = self.key;
         let typ = self.typ;
@@ -162,21 +162,21 @@ impl Reassembler {
     }
 
     pub fn take_handle(self, issue: u64) -> Reassembler
-        ensures { λ r. ⌜ r ≡ restated (State.HandleOut issue) self ⌝ }
+        ensures { λ r. ⌜ r ≡ withState (State.HandleOut issue) self ⌝ }
     {
         let cookie = self.cookie;
         self.with(State::HandleOut(issue), cookie)
     }
 
     pub fn return_handle(self) -> Reassembler
-        ensures { λ r. ⌜ r ≡ restated State.Done self ⌝ }
+        ensures { λ r. ⌜ r ≡ withState State.Done self ⌝ }
     {
         let cookie = self.cookie;
         self.with(State::Done, cookie)
     }
 
     pub fn set_cookie(self, cookie: Cookie) -> Reassembler
-        ensures { λ r. ⌜ r ≡ recookied cookie self ⌝ }
+        ensures { λ r. ⌜ r ≡ withSlotCookie cookie self ⌝ }
     {
         let state = self.state;
         self.with(state, cookie)

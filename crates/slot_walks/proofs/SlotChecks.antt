@@ -13,7 +13,7 @@ use Rattle.slot.specs.declared.Reassembler.{Reassembler}
 use Rattle.slot.specs.Slot.{blankSlot, isReply, handleTaken}
 use Rattle.state.specs.Slot.{SlotOk}
 use Rattle.state.specs.declared.Sizes.{Sizes}
-use Rattle.state.specs.Stack.{Kept, Becomes, stackOf, slotAt, reslot, reslots}
+use Rattle.state.specs.Stack.{Kept, Becomes, stackOf, slotAt, withSlot, withSlots}
 use Rattle.slot_walks.specs.SlotWalks.{swept, blocked}
 use Rattle.state.proofs.PartLoops.{slotPart, Walked, walk-start, walk-next, walk-done, walk-stop, drop-here, drop-next, drop-end}
 
@@ -77,7 +77,7 @@ module _ (z : Sizes) (peer : Eid) (tag : TagValue) where
 
   -- the turn of slot i, of which r tells whether the walk stops there
   module _ (b₀ b x : List ℕ) (i : ℕ) (w : Swept b₀ b i) (h : i < z .slots) (r : Bool)
-      (turn : (r ≡ blocked peer tag (slotAt i (stackOf z b) ∷ [])) × Becomes z b x (reslot i (sweptSlot peer tag (slotAt i (stackOf z b))) (stackOf z b))) where
+      (turn : (r ≡ blocked peer tag (slotAt i (stackOf z b) ∷ [])) × Becomes z b x (withSlot i (sweptSlot peer tag (slotAt i (stackOf z b))) (stackOf z b))) where
     abbrev slot : Reassembler
     slot = slotAt i (stackOf z b)
 
@@ -90,7 +90,7 @@ module _ (z : Sizes) (peer : Eid) (tag : TagValue) where
     was-ahead : blocked peer tag (slot ∷ behind) ≡ blocked peer tag (stackOf z b₀ .slots)
     was-ahead = sym (ap (blocked peer tag) from-here) ∙ w .ahead
 
-    pub sweep-stops : r ≡ true → (true ≡ blocked peer tag (stackOf z b₀ .slots)) × Becomes z b₀ x (reslots (swept peer tag (stackOf z b₀ .slots)) (stackOf z b₀))
+    pub sweep-stops : r ≡ true → (true ≡ blocked peer tag (stackOf z b₀ .slots)) × Becomes z b₀ x (withSlots (swept peer tag (stackOf z b₀ .slots)) (stackOf z b₀))
     sweep-stops e =
         let o = sweep-off peer tag slot behind (sym (turn .0) ∙ e) in (
           sym (o .1 .0) ∙ was-ahead,
@@ -106,7 +106,7 @@ module _ (z : Sizes) (peer : Eid) (tag : TagValue) where
         }
 
   pub sweep-ends : (b₀ b : List ℕ) (i : ℕ) → Swept b₀ b i → z .slots ≤ i
-      → (false ≡ blocked peer tag (stackOf z b₀ .slots)) × Becomes z b₀ b (reslots (swept peer tag (stackOf z b₀ .slots)) (stackOf z b₀))
+      → (false ≡ blocked peer tag (stackOf z b₀ .slots)) × Becomes z b₀ b (withSlots (swept peer tag (stackOf z b₀ .slots)) (stackOf z b₀))
   unfolding swept blocked
   sweep-ends b₀ b i w h =
       let g = drop-end slotPart z b i h in

@@ -9,7 +9,7 @@ ghost use Rattle.octets.specs.Find.{find};
 ghost use Rattle.slot.specs.Slot.{blankSlot, isEmpty, collects, keptUnder, listed, slotTimeout, fadedSlot};
 ghost use Rattle.slot.specs.Search.{earliest};
 ghost use Rattle.state.specs.Slot.{wordOf};
-ghost use Rattle.state.specs.Stack.{Kept, Becomes, stackOf, slotAt, reslot, reslots};
+ghost use Rattle.state.specs.Stack.{Kept, Becomes, stackOf, slotAt, withSlot, withSlots};
 ghost use Rattle.stamp.specs.Checks.{checkOf};
 ghost use Rattle.state.specs.Times.{slotTimes};
 ghost use Rattle.slot_walks.specs.SlotWalks.{swept, blocked, hasWord, betterOf, chosen};
@@ -76,7 +76,7 @@ pub fn find_empty(state: &[u8], sizes: Sizes) -> usize
 // One slot of a check: expired, it is emptied.
 fn expire_slot(state: &mut [u8], sizes: Sizes, i: usize, clock: u64, c: Check) -> Check
     requires { ⌜ Kept sizes (now state) × (i < sizes .slots) ⌝ }
-    ensures { λ r. ⌜ (r ≡ checkOf (slotTimeout clock (slotAt i (stackOf sizes (now (state .entry)))) ∷ []) c) × Becomes sizes (now (state .entry)) (now (state .exit)) (reslot i (fadedSlot clock (slotAt i (stackOf sizes (now (state .entry))))) (stackOf sizes (now (state .entry)))) ⌝ }
+    ensures { λ r. ⌜ (r ≡ checkOf (slotTimeout clock (slotAt i (stackOf sizes (now (state .entry)))) ∷ []) c) × Becomes sizes (now (state .entry)) (now (state .exit)) (withSlot i (fadedSlot clock (slotAt i (stackOf sizes (now (state .entry))))) (stackOf sizes (now (state .entry)))) ⌝ }
 {
     let t = state::slot_at(state, sizes, i).check_expired(clock);
     let found = c.noted(t);
@@ -90,7 +90,7 @@ fn expire_slot(state: &mut [u8], sizes: Sizes, i: usize, clock: u64, c: Check) -
 // Expired slots are emptied; what the check found goes on from `c`.
 pub fn expire_slots(state: &mut [u8], sizes: Sizes, clock: u64, c: Check) -> Check
     requires { ⌜ Kept sizes (now state) ⌝ }
-    ensures { λ r. ⌜ (r ≡ checkOf (slotTimes clock (stackOf sizes (now (state .entry)))) c) × Becomes sizes (now (state .entry)) (now (state .exit)) (reslots (map (fadedSlot clock) (stackOf sizes (now (state .entry)) .slots)) (stackOf sizes (now (state .entry)))) ⌝ }
+    ensures { λ r. ⌜ (r ≡ checkOf (slotTimes clock (stackOf sizes (now (state .entry)))) c) × Becomes sizes (now (state .entry)) (now (state .exit)) (withSlots (map (fadedSlot clock) (stackOf sizes (now (state .entry)) .slots)) (stackOf sizes (now (state .entry)))) ⌝ }
 {
     let n = sizes.slots;
     let mut found = c;
@@ -196,7 +196,7 @@ pub fn earliest_listed(state: &[u8], sizes: Sizes, cookies: &[u64]) -> usize
 // One slot of a cancel's walk: a reply with no handle out is freed; true where the walk stops there.
 fn sweep_slot(state: &mut [u8], sizes: Sizes, i: usize, peer: Eid, tag: TagValue) -> bool
     requires { ⌜ Kept sizes (now state) × (i < sizes .slots) ⌝ }
-    ensures { λ r. ⌜ (r ≡ blocked peer tag (slotAt i (stackOf sizes (now (state .entry))) ∷ [])) × Becomes sizes (now (state .entry)) (now (state .exit)) (reslot i (getD (swept peer tag (slotAt i (stackOf sizes (now (state .entry))) ∷ [])) 0 blankSlot) (stackOf sizes (now (state .entry)))) ⌝ }
+    ensures { λ r. ⌜ (r ≡ blocked peer tag (slotAt i (stackOf sizes (now (state .entry))) ∷ [])) × Becomes sizes (now (state .entry)) (now (state .exit)) (withSlot i (getD (swept peer tag (slotAt i (stackOf sizes (now (state .entry))) ∷ [])) 0 blankSlot) (stackOf sizes (now (state .entry)))) ⌝ }
 {
     let s = state::slot_at(state, sizes, i);
     let reply = slot::is_reply(s, peer, tag);
@@ -214,7 +214,7 @@ fn sweep_slot(state: &mut [u8], sizes: Sizes, i: usize, peer: Eid, tag: TagValue
 // A cancel's walk: replies of that peer and tag are freed; true where it stopped at one with a handle out.
 pub fn sweep(state: &mut [u8], sizes: Sizes, peer: Eid, tag: TagValue) -> bool
     requires { ⌜ Kept sizes (now state) ⌝ }
-    ensures { λ r. ⌜ (r ≡ blocked peer tag (stackOf sizes (now (state .entry)) .slots)) × Becomes sizes (now (state .entry)) (now (state .exit)) (reslots (swept peer tag (stackOf sizes (now (state .entry)) .slots)) (stackOf sizes (now (state .entry)))) ⌝ }
+    ensures { λ r. ⌜ (r ≡ blocked peer tag (stackOf sizes (now (state .entry)) .slots)) × Becomes sizes (now (state .entry)) (now (state .exit)) (withSlots (swept peer tag (stackOf sizes (now (state .entry)) .slots)) (stackOf sizes (now (state .entry)))) ⌝ }
 {
     let n = sizes.slots;
     let mut i = 0;

@@ -8,7 +8,7 @@ use Rattle.octets.proofs.Number.{num-le, top}
 use Rattle.octets.proofs.Region.{Lawful}
 use Rattle.state.specs.declared.Head.{Head}
 use Rattle.state.specs.Layout.{headWidth}
-use Rattle.state.specs.Head.{headBytes, headOf, HeadOk, headCodec, recounted, retagged, resequenced, reissued}
+use Rattle.state.specs.Head.{headBytes, headOf, HeadOk, headCodec, withCounter, withNextTag, withNextSeq, withIssue}
 
 pub head-long : (h : Head) → length (headBytes h) ≡ headWidth
 unfolding headBytes pack le
@@ -46,30 +46,30 @@ pub head-lawful : Lawful headCodec
 head-lawful = record { long = head-long; back = head-back }
 
 -- narrow stores in a head's bytes
-pub counter-bytes : (n : ℕ) (h : Head) → lay 4 (le 4 n) (headBytes h) ≡ headBytes (recounted n h)
+pub counter-bytes : (n : ℕ) (h : Head) → lay 4 (le 4 n) (headBytes h) ≡ headBytes (withCounter n h)
 unfolding headBytes pack le lay
 counter-bytes n h = refl
 
-pub counter-ok : (n : ℕ) (h : Head) → n < 2 ^ 32 → HeadOk h → HeadOk (recounted n h)
+pub counter-ok : (n : ℕ) (h : Head) → n < 2 ^ 32 → HeadOk h → HeadOk (withCounter n h)
 counter-ok n h l ok = record { own = ok .own; tag = ok .tag; seq = ok .seq; counter = l; clock = ok .clock; planned = ok .planned; issue = ok .issue; mtu = ok .mtu; soon = ok .soon }
 
-pub tag-bytes : (n : ℕ) (h : Head) → lay 1 (le 1 n) (headBytes h) ≡ headBytes (retagged n h)
+pub tag-bytes : (n : ℕ) (h : Head) → lay 1 (le 1 n) (headBytes h) ≡ headBytes (withNextTag n h)
 unfolding headBytes pack le lay
 tag-bytes n h = refl
 
-pub tag-ok : (n : ℕ) (h : Head) → n < 8 → HeadOk h → HeadOk (retagged n h)
+pub tag-ok : (n : ℕ) (h : Head) → n < 8 → HeadOk h → HeadOk (withNextTag n h)
 tag-ok n h l ok = record { own = ok .own; tag = l; seq = ok .seq; counter = ok .counter; clock = ok .clock; planned = ok .planned; issue = ok .issue; mtu = ok .mtu; soon = ok .soon }
 
-pub seq-bytes : (h : Head) → lay 2 (le 2 (resequenced h .«next_seq»)) (headBytes h) ≡ headBytes (resequenced h)
+pub seq-bytes : (h : Head) → lay 2 (le 2 (withNextSeq h .«next_seq»)) (headBytes h) ≡ headBytes (withNextSeq h)
 unfolding headBytes pack le lay
 seq-bytes h = refl
 
-pub seq-ok : (h : Head) → HeadOk h → HeadOk (resequenced h)
+pub seq-ok : (h : Head) → HeadOk h → HeadOk (withNextSeq h)
 seq-ok h ok = record { own = ok .own; tag = ok .tag; seq = omega arith; counter = ok .counter; clock = ok .clock; planned = ok .planned; issue = ok .issue; mtu = ok .mtu; soon = ok .soon }
 
-pub issue-bytes : (n : ℕ) (h : Head) → lay 24 (le 8 n) (headBytes h) ≡ headBytes (reissued n h)
+pub issue-bytes : (n : ℕ) (h : Head) → lay 24 (le 8 n) (headBytes h) ≡ headBytes (withIssue n h)
 unfolding headBytes pack le lay
 issue-bytes n h = refl
 
-pub issue-ok : (n : ℕ) (h : Head) → n < 2 ^ 64 → HeadOk h → HeadOk (reissued n h)
+pub issue-ok : (n : ℕ) (h : Head) → n < 2 ^ 64 → HeadOk h → HeadOk (withIssue n h)
 issue-ok n h l ok = record { own = ok .own; tag = ok .tag; seq = ok .seq; counter = ok .counter; clock = ok .clock; planned = ok .planned; issue = l; mtu = ok .mtu; soon = ok .soon }

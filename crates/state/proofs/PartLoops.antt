@@ -17,7 +17,7 @@ use Rattle.slot.specs.declared.Reassembler.{Reassembler}
 use Rattle.slot.specs.Slot.{blankSlot, slotTimeout, fadedSlot}
 use Rattle.state.specs.declared.Sizes.{Sizes}
 use Rattle.state.specs.Layout.{size, flowCount}
-use Rattle.state.specs.Stack.{Stack, stackOf, Kept, Becomes, reslots, reflows}
+use Rattle.state.specs.Stack.{Stack, stackOf, Kept, Becomes, withSlots, withFlows}
 use Rattle.state.proofs.StackLaws.{slots-length, flows-length, stays, determined}
 use Rattle.stamp.specs.declared.Check.{Check}
 use Rattle.stamp.specs.Checks.{leastLeft, anyExpired, checkOf}
@@ -44,7 +44,7 @@ pub record Part (A : Type 0) : Type 1 where
 abbrev pub slotPart : Part Reassembler
 slotPart = record {
   get = λ st. st .slots;
-  put = reslots;
+  put = withSlots;
   blank = blankSlot;
   count = λ z. z .slots;
   got = λ l st. refl;
@@ -56,7 +56,7 @@ slotPart = record {
 abbrev pub flowPart : Part Flow
 flowPart = record {
   get = λ st. st .flows;
-  put = reflows;
+  put = withFlows;
   blank = noFlow;
   count = λ z. flowCount;
   got = λ l st. refl;

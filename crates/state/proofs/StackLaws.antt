@@ -24,7 +24,7 @@ use Rattle.state.specs.declared.Sizes.{Sizes}
 use Rattle.state.specs.Layout.{headWidth, slotWidth, flowCount, slotsAt, flowsAt, size}
 use Rattle.state.specs.Head.{headCodec, headBytes, headOf, HeadOk}
 use Rattle.state.specs.Slot.{slotCodec, slotBytes, slotOf, SlotOk}
-use Rattle.state.specs.Stack.{Stack, stackOf, encode, Kept, Becomes, rehead, reslot, reflow, slotAt, flowAt}
+use Rattle.state.specs.Stack.{Stack, stackOf, encode, Kept, Becomes, withHead, withSlot, withFlow, slotAt, flowAt}
 use Rattle.state.proofs.HeadLaws.{head-long, head-lawful}
 use Rattle.state.proofs.SlotLaws.{slot-long, slot-lawful, slot-blank}
 
@@ -127,7 +127,7 @@ pub slot-whole : (x y : Reassembler) → lay 0 (slotBytes y) (slotBytes x) ≡ s
 slot-whole = block-whole (slotCodec 0) (slot-lawful 0)
 
 module _ (z : Sizes) (b : List ℕ) (k : Kept z b) where
-  head-put : (h : Head) → HeadOk h → Becomes z b (over 0 (headBytes h) b) (rehead h (stackOf z b))
+  head-put : (h : Head) → HeadOk h → Becomes z b (over 0 (headBytes h) b) (withHead h (stackOf z b))
   unfolding stackOf
   head-put h ok =
       let n = k .long in
@@ -171,7 +171,7 @@ module _ (z : Sizes) (b : List ℕ) (k : Kept z b) where
           rest = drop-over (size z) at s b in-state (omega arith);
         }
 
-  flow-put : (i : ℕ) (f : Flow) → i < flowCount → FlowOk f → Becomes z b (over (flowPlace i) (flowBytes f) b) (reflow i f (stackOf z b))
+  flow-put : (i : ℕ) (f : Flow) → i < flowCount → FlowOk f → Becomes z b (over (flowPlace i) (flowBytes f) b) (withFlow i f (stackOf z b))
   unfolding stackOf
   flow-put i f h ok =
       let n = k .long in
@@ -185,7 +185,7 @@ module _ (z : Sizes) (b : List ℕ) (k : Kept z b) where
       (rw (← p) (regular-put flowCodec flow-lawful f ok b flowCount flowsAt i h (omega arith) (k .flows)))
       (regular-after C (z .slots) slotsAt (flowPlace i) (flowBytes f) b (omega arith) (omega arith) (k .slots))
 
-  slot-put : (i : ℕ) (s : Reassembler) → i < z .slots → SlotOk (z .body) s → Becomes z b (over (slotPlace i) (slotBytes s) b) (reslot i s (stackOf z b))
+  slot-put : (i : ℕ) (s : Reassembler) → i < z .slots → SlotOk (z .body) s → Becomes z b (over (slotPlace i) (slotBytes s) b) (withSlot i s (stackOf z b))
   unfolding stackOf
   slot-put i s h ok =
       let n = k .long in
@@ -228,7 +228,7 @@ module _ (z : Sizes) (b : List ℕ) (k : Kept z b) where
     slot-none = blank-read (slotCodec (z .body)) (z .slots) slotsAt b blankSlot (k .slots) i (slot-blank (z .body))
 
     -- a store past the last slot is none
-    pub slot-stays : (s : Reassembler) → z .slots ≤ i → Becomes z b b (reslot i s (stackOf z b))
+    pub slot-stays : (s : Reassembler) → z .slots ≤ i → Becomes z b b (withSlot i s (stackOf z b))
     slot-stays s h =
         let n = slots-length z b in
         let e = set-out (stackOf z b .slots) i s (omega arith) in
@@ -258,7 +258,7 @@ module _ (z : Sizes) (b : List ℕ) (k : Kept z b) where
     unfolding stackOf
     flow-none = blank-read flowCodec flowCount flowsAt b noFlow (k .flows) i no-flow-ok
 
-    pub flow-stays : (f : Flow) → flowCount ≤ i → Becomes z b b (reflow i f (stackOf z b))
+    pub flow-stays : (f : Flow) → flowCount ≤ i → Becomes z b b (withFlow i f (stackOf z b))
     flow-stays f h =
         let n = flows-length z b in
         let e = set-out (stackOf z b .flows) i f (omega arith) in
@@ -275,21 +275,21 @@ module _ (z : Sizes) (b : List ℕ) (k : Kept z b) where
   -- a block, lent and stored to as f says, comes back as the bytes of another element
   module _ (f : List ℕ → List ℕ) (s : List ℕ) where
     pub head-store : (h : Head) → f (headBytes (stackOf z b .head)) ≡ headBytes h → HeadOk h → s ≡ f (lentAs 0 headWidth b)
-        → Becomes z b (backAs 0 headWidth s b) (rehead h (stackOf z b))
+        → Becomes z b (backAs 0 headWidth s b) (withHead h (stackOf z b))
     head-store h q ok e =
         let l = k .long in
         rw (block-back headCodec head-lawful 0 b (stackOf z b .head) h f s (omega arith) head-lent q e) (head-put h ok)
 
     pub flow-store : (i : ℕ) (x : Flow) (h : i < flowCount) → f (flowBytes (flowAt i (stackOf z b))) ≡ flowBytes x → FlowOk x
         → s ≡ f (lentAs (flowPlace i) flowWidth b)
-        → Becomes z b (backAs (flowPlace i) flowWidth s b) (reflow i x (stackOf z b))
+        → Becomes z b (backAs (flowPlace i) flowWidth s b) (withFlow i x (stackOf z b))
     flow-store i x h q ok e =
         let l = k .long in
         rw (block-back flowCodec flow-lawful (flowPlace i) b (flowAt i (stackOf z b)) x f s (omega arith) (flow-lent i h) q e) (flow-put i x h ok)
 
     pub slot-store : (i : ℕ) (x : Reassembler) (h : i < z .slots) → f (slotBytes (slotAt i (stackOf z b))) ≡ slotBytes x → SlotOk (z .body) x
         → s ≡ f (lentAs (slotPlace i) slotWidth b)
-        → Becomes z b (backAs (slotPlace i) slotWidth s b) (reslot i x (stackOf z b))
+        → Becomes z b (backAs (slotPlace i) slotWidth s b) (withSlot i x (stackOf z b))
     slot-store i x h q ok e =
         let l = k .long in
         rw (block-back (slotCodec (z .body)) (slot-lawful (z .body)) (slotPlace i) b (slotAt i (stackOf z b)) x f s (omega arith) (slot-lent i h) q e) (slot-put i x h ok)

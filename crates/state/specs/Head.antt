@@ -48,24 +48,24 @@ abbrev pub headWith : Eid → EventStamp → ℕ → ℕ → ℕ → ℕ → Hea
 headWith own now planned tag seq issue h = record { «own_eid» = own; mtu = h .mtu; now = now; «next_timeout» = planned; «next_tag» = tag; «next_seq» = seq; issue = issue }
 
 -- the head with one part anew
-abbrev pub reowned : Eid → Head → Head
-reowned own h = headWith own (h .now) (h .«next_timeout») (h .«next_tag») (h .«next_seq») (h .issue) h
+abbrev pub withOwn : Eid → Head → Head
+withOwn own h = headWith own (h .now) (h .«next_timeout») (h .«next_tag») (h .«next_seq») (h .issue) h
 
-abbrev pub renowed : EventStamp → Head → Head
-renowed now h = headWith (h .«own_eid») now (h .«next_timeout») (h .«next_tag») (h .«next_seq») (h .issue) h
+abbrev pub withNow : EventStamp → Head → Head
+withNow now h = headWith (h .«own_eid») now (h .«next_timeout») (h .«next_tag») (h .«next_seq») (h .issue) h
 
-abbrev pub recounted : ℕ → Head → Head
-recounted n h = renowed (record { clock = h .now .clock; counter = n }) h
+abbrev pub withCounter : ℕ → Head → Head
+withCounter n h = withNow (record { clock = h .now .clock; counter = n }) h
 
-abbrev pub replanned : ℕ → Head → Head
-replanned t h = headWith (h .«own_eid») (h .now) t (h .«next_tag») (h .«next_seq») (h .issue) h
+abbrev pub withPlanned : ℕ → Head → Head
+withPlanned t h = headWith (h .«own_eid») (h .now) t (h .«next_tag») (h .«next_seq») (h .issue) h
 
-abbrev pub retagged : ℕ → Head → Head
-retagged n h = headWith (h .«own_eid») (h .now) (h .«next_timeout») n (h .«next_seq») (h .issue) h
+abbrev pub withNextTag : ℕ → Head → Head
+withNextTag n h = headWith (h .«own_eid») (h .now) (h .«next_timeout») n (h .«next_seq») (h .issue) h
 
 -- the sequence goes up by 1 modulo 4
-abbrev pub resequenced : Head → Head
-resequenced h = headWith (h .«own_eid») (h .now) (h .«next_timeout») (h .«next_tag») ((h .«next_seq» % 4 + 1) % 4) (h .issue) h
+abbrev pub withNextSeq : Head → Head
+withNextSeq h = headWith (h .«own_eid») (h .now) (h .«next_timeout») (h .«next_tag») ((h .«next_seq» % 4 + 1) % 4) (h .issue) h
 
-abbrev pub reissued : ℕ → Head → Head
-reissued n h = headWith (h .«own_eid») (h .now) (h .«next_timeout») (h .«next_tag») (h .«next_seq») n h
+abbrev pub withIssue : ℕ → Head → Head
+withIssue n h = headWith (h .«own_eid») (h .now) (h .«next_timeout») (h .«next_tag») (h .«next_seq») n h

@@ -17,7 +17,7 @@ use Rattle.slot.specs.Slot.{blankSlot}
 use Rattle.state.specs.declared.Sizes.{Sizes}
 use Rattle.state.specs.declared.Head.{Head}
 use Rattle.state.specs.Layout.{headWidth, flowCount, flowsAt, slotsAt, size, SizesOk}
-use Rattle.state.specs.Head.{headCodec, headBytes, headOf, renowed}
+use Rattle.state.specs.Head.{headCodec, headBytes, headOf, withNow}
 use Rattle.state.specs.Slot.{slotCodec}
 
 pub record Stack : Type 0 where
@@ -52,14 +52,14 @@ pub record Becomes (z : Sizes) (b b′ : List ℕ) (st : Stack) : Type 0 where
   pub kept : Kept z b′
   pub rest : drop (size z) b′ ≡ drop (size z) b
 
-abbrev pub rehead : Head → Stack → Stack
-rehead h st = record { head = h; flows = st .flows; slots = st .slots }
+abbrev pub withHead : Head → Stack → Stack
+withHead h st = record { head = h; flows = st .flows; slots = st .slots }
 
-abbrev pub reflow : ℕ → Flow → Stack → Stack
-reflow i f st = record { head = st .head; flows = set (st .flows) i f; slots = st .slots }
+abbrev pub withFlow : ℕ → Flow → Stack → Stack
+withFlow i f st = record { head = st .head; flows = set (st .flows) i f; slots = st .slots }
 
-abbrev pub reslot : ℕ → Reassembler → Stack → Stack
-reslot i s st = record { head = st .head; flows = st .flows; slots = set (st .slots) i s }
+abbrev pub withSlot : ℕ → Reassembler → Stack → Stack
+withSlot i s st = record { head = st .head; flows = st .flows; slots = set (st .slots) i s }
 
 abbrev pub slotAt : ℕ → Stack → Reassembler
 slotAt i st = getD (st .slots) i blankSlot
@@ -68,15 +68,15 @@ abbrev pub flowAt : ℕ → Stack → Flow
 flowAt i st = getD (st .flows) i noFlow
 
 -- the stack with another stamp of the last event
-abbrev pub renow : EventStamp → Stack → Stack
-renow now st = rehead (renowed now (st .head)) st
+abbrev pub withStamp : EventStamp → Stack → Stack
+withStamp now st = withHead (withNow now (st .head)) st
 
 -- one event is counted
 abbrev pub ticked : Stack → Stack
-ticked st = renow (next (st .head .now)) st
+ticked st = withStamp (next (st .head .now)) st
 
-abbrev pub reslots : List Reassembler → Stack → Stack
-reslots slots st = record { head = st .head; flows = st .flows; slots = slots }
+abbrev pub withSlots : List Reassembler → Stack → Stack
+withSlots slots st = record { head = st .head; flows = st .flows; slots = slots }
 
-abbrev pub reflows : List Flow → Stack → Stack
-reflows flows st = record { head = st .head; flows = flows; slots = st .slots }
+abbrev pub withFlows : List Flow → Stack → Stack
+withFlows flows st = record { head = st .head; flows = flows; slots = st .slots }

@@ -7,10 +7,10 @@ ghost use lib.ListN.{replicate};
 ghost use Rattle.octets.specs.Bytes.{lay, puts};
 ghost use Rattle.slot.specs.Slot.{stateNo};
 ghost use Rattle.flows.specs.Codec.{FlowOk, flowWord};
-ghost use Rattle.state.specs.Head.{headOf, headBytes, HeadOk, headWith, reowned, renowed, recounted, replanned, retagged, resequenced, reissued};
+ghost use Rattle.state.specs.Head.{headOf, headBytes, HeadOk, headWith, withOwn, withNow, withCounter, withPlanned, withNextTag, withNextSeq, withIssue};
 ghost use Rattle.state.specs.Slot.{issueNo, stateFrom, ownerTag, slotOf, slotBytes, leadRow, restRow, progressRow, SlotOk, ProgressOk, progress, progressOf, keyWord};
 ghost use Rattle.stamp.specs.Stamp.{next};
-ghost use Rattle.state.specs.Stack.{ticked, Kept, Becomes, stackOf, slotAt, flowAt, reslot, reflow, rehead};
+ghost use Rattle.state.specs.Stack.{ticked, Kept, Becomes, stackOf, slotAt, flowAt, withSlot, withFlow, withHead};
 use flows::Flow;
 use mctp::Cookie;
 use mctp::Eid;
@@ -83,7 +83,7 @@ impl Head {
 
     pub fn with_own(self, own: Eid) -> Head
         requires { ⌜ HeadOk self ⌝ }
-        ensures { λ r. ⌜ (r ≡ reowned own self) × HeadOk r ⌝ }
+        ensures { λ r. ⌜ (r ≡ withOwn own self) × HeadOk r ⌝ }
     {
         let stamp = self.now;
         self.with(own, stamp, self.next_timeout)
@@ -92,7 +92,7 @@ impl Head {
     // Another stamp of the last event, and another planned check.
     pub fn with_clock(self, stamp: EventStamp, planned: u64) -> Head
         requires { ⌜ HeadOk self ⌝ }
-        ensures stamped { λ r. ⌜ r ≡ replanned planned (renowed stamp self) ⌝ }
+        ensures stamped { λ r. ⌜ r ≡ withPlanned planned (withNow stamp self) ⌝ }
         ensures sound { λ r. ⌜ ((planned ≤ stamp .clock + 100) → HeadOk r) ⌝ }
     {
         let own = self.own_eid;
@@ -290,7 +290,7 @@ pub fn head_at(state: &[u8], sizes: Sizes) -> Head
 
 pub fn put_head(state: &mut [u8], sizes: Sizes, h: Head)
     requires { ⌜ Kept sizes (now state) × HeadOk h ⌝ }
-    ensures { λ _. ⌜ Becomes sizes (now (state .entry)) (now (state .exit)) (rehead h (stackOf sizes (now (state .entry)))) ⌝ }
+    ensures { λ _. ⌜ Becomes sizes (now (state .entry)) (now (state .exit)) (withHead h (stackOf sizes (now (state .entry)))) ⌝ }
 {
     write_head(&mut state[0..HEAD_WIDTH], h);
 }
@@ -318,7 +318,7 @@ pub fn now_at(state: &[u8], sizes: Sizes) -> EventStamp
 // The last event's counter, at the same clock.
 pub fn put_counter(state: &mut [u8], sizes: Sizes, counter: u32)
     requires { ⌜ Kept sizes (now state) ⌝ }
-    ensures { λ _. ⌜ Becomes sizes (now (state .entry)) (now (state .exit)) (rehead (recounted counter (stackOf sizes (now (state .entry)) .head)) (stackOf sizes (now (state .entry)))) ⌝ }
+    ensures { λ _. ⌜ Becomes sizes (now (state .entry)) (now (state .exit)) (withHead (withCounter counter (stackOf sizes (now (state .entry)) .head)) (stackOf sizes (now (state .entry)))) ⌝ }
 {
     put4(&mut state[0..HEAD_WIDTH], 4, counter);
 }
@@ -343,7 +343,7 @@ pub fn mtu_at(state: &[u8], sizes: Sizes) -> usize
 // The tag counter goes up by 1 modulo 8: what it is then.
 pub fn next_tag(state: &mut [u8], sizes: Sizes) -> u8
     requires { ⌜ Kept sizes (now state) ⌝ }
-    ensures { λ r. ⌜ (r ≡ (stackOf sizes (now (state .entry)) .head .«next_tag» % 8 + 1) % 8) × Becomes sizes (now (state .entry)) (now (state .exit)) (rehead (retagged ((stackOf sizes (now (state .entry)) .head .«next_tag» % 8 + 1) % 8) (stackOf sizes (now (state .entry)) .head)) (stackOf sizes (now (state .entry)))) ⌝ }
+    ensures { λ r. ⌜ (r ≡ (stackOf sizes (now (state .entry)) .head .«next_tag» % 8 + 1) % 8) × Becomes sizes (now (state .entry)) (now (state .exit)) (withHead (withNextTag ((stackOf sizes (now (state .entry)) .head .«next_tag» % 8 + 1) % 8) (stackOf sizes (now (state .entry)) .head)) (stackOf sizes (now (state .entry)))) ⌝ }
 {
     let tag = (get1(&state[0..HEAD_WIDTH], 1) % 8 + 1) % 8;
     put1(&mut state[0..HEAD_WIDTH], 1, tag);
@@ -353,7 +353,7 @@ pub fn next_tag(state: &mut [u8], sizes: Sizes) -> u8
 // The sequence goes up by 1 modulo 4: what it is then.
 pub fn next_seq(state: &mut [u8], sizes: Sizes) -> u8
     requires { ⌜ Kept sizes (now state) ⌝ }
-    ensures { λ r. ⌜ (r ≡ resequenced (stackOf sizes (now (state .entry)) .head) .«next_seq») × Becomes sizes (now (state .entry)) (now (state .exit)) (rehead (resequenced (stackOf sizes (now (state .entry)) .head)) (stackOf sizes (now (state .entry)))) ⌝ }
+    ensures { λ r. ⌜ (r ≡ withNextSeq (stackOf sizes (now (state .entry)) .head) .«next_seq») × Becomes sizes (now (state .entry)) (now (state .exit)) (withHead (withNextSeq (stackOf sizes (now (state .entry)) .head)) (stackOf sizes (now (state .entry)))) ⌝ }
 {
     let seq = (get1(&state[0..HEAD_WIDTH], 2) % 4 + 1) % 4;
     put2(&mut state[0..HEAD_WIDTH], 2, seq as u16);
@@ -369,7 +369,7 @@ pub fn issue_at(state: &[u8], sizes: Sizes) -> u64
 
 pub fn put_issue(state: &mut [u8], sizes: Sizes, issue: u64)
     requires { ⌜ Kept sizes (now state) ⌝ }
-    ensures { λ _. ⌜ Becomes sizes (now (state .entry)) (now (state .exit)) (rehead (reissued issue (stackOf sizes (now (state .entry)) .head)) (stackOf sizes (now (state .entry)))) ⌝ }
+    ensures { λ _. ⌜ Becomes sizes (now (state .entry)) (now (state .exit)) (withHead (withIssue issue (stackOf sizes (now (state .entry)) .head)) (stackOf sizes (now (state .entry)))) ⌝ }
 {
     put8(&mut state[0..HEAD_WIDTH], 24, issue);
 }
@@ -390,7 +390,7 @@ pub fn slot_at(state: &[u8], sizes: Sizes, i: usize) -> Reassembler
 // Past the last slot nothing is stored.
 pub fn put_slot(state: &mut [u8], sizes: Sizes, i: usize, s: Reassembler)
     requires { ⌜ Kept sizes (now state) × SlotOk (sizes .body) s ⌝ }
-    ensures { λ _. ⌜ Becomes sizes (now (state .entry)) (now (state .exit)) (reslot i s (stackOf sizes (now (state .entry)))) ⌝ }
+    ensures { λ _. ⌜ Becomes sizes (now (state .entry)) (now (state .exit)) (withSlot i s (stackOf sizes (now (state .entry)))) ⌝ }
 {
     if sizes.slots <= i {
         return;
@@ -403,7 +403,7 @@ pub fn put_slot(state: &mut [u8], sizes: Sizes, i: usize, s: Reassembler)
 // A slot that goes on collecting: sequence and length alone.
 pub fn put_progress(state: &mut [u8], sizes: Sizes, i: usize, p: Progress)
     requires { ⌜ Kept sizes (now state) × ProgressOk (sizes .body) p ⌝ }
-    ensures { λ _. ⌜ Becomes sizes (now (state .entry)) (now (state .exit)) (reslot i (progress (p .seq) (p .len) (slotAt i (stackOf sizes (now (state .entry))))) (stackOf sizes (now (state .entry)))) ⌝ }
+    ensures { λ _. ⌜ Becomes sizes (now (state .entry)) (now (state .exit)) (withSlot i (progress (p .seq) (p .len) (slotAt i (stackOf sizes (now (state .entry))))) (stackOf sizes (now (state .entry)))) ⌝ }
 {
     if sizes.slots <= i {
         return;
@@ -469,7 +469,7 @@ pub fn flow_at(state: &[u8], sizes: Sizes, i: usize) -> Flow
 // Past the last place nothing is stored.
 pub fn put_flow(state: &mut [u8], sizes: Sizes, i: usize, f: Flow)
     requires { ⌜ Kept sizes (now state) × FlowOk f ⌝ }
-    ensures { λ _. ⌜ Becomes sizes (now (state .entry)) (now (state .exit)) (reflow i f (stackOf sizes (now (state .entry)))) ⌝ }
+    ensures { λ _. ⌜ Becomes sizes (now (state .entry)) (now (state .exit)) (withFlow i f (stackOf sizes (now (state .entry)))) ⌝ }
 {
     if FLOW_COUNT <= i {
         return;

@@ -1,4 +1,4 @@
--- Whatever a receive hands out was carried: the packets taken under its key since the newest opening one are a message in packets as DSP0236 has it, SOM on
+-- Whatever a receive hands out was carried: the packets taken under its key since the newest countedOpening one are a message in packets as DSP0236 has it, SOM on
 -- the first alone and EOM on the last alone. For a slot that collects has met no EOM since it was opened.
 use Prim.Native.Nat.{ℕ, _+_, _*_, _%_, _≤_}
 use native.Mathlib.Nat.{le-refl, le-trans, le-max-left, le-max-right}
@@ -33,7 +33,7 @@ use Rattle.slot.specs.declared.ReceiveHandle.{ReceiveHandle}
 use Rattle.receiving.specs.declared.Received.the-variants.{Message as Told}
 use Rattle.slot.specs.Handle.{nextIssue, handleWords}
 use Rattle.receiving.specs.Conclude.{saidOf}
-use Rattle.receiving.specs.Receive.{Receipt, land, opening, gateOf, receiveAt, receiveBy, receiveOf}
+use Rattle.receiving.specs.Receive.{Receipt, land, countedOpening, gateOf, receiveAt, receiveBy, receiveOf}
 use Rattle.promises.specs.Calls.{Call, receive, elsewhere, update, startSend, cancelFlow, getDeferred, getDeferredByCookie, fetchMessage, finishedReceive, returnHandle, setCookie, setEid, eid, isLocalDest, freeTags, World, step, steps, receipt, performed, hasKey}
 use Rattle.promises.specs.Delivery.{Message, messageAt, allOf}
 use Rattle.promises.specs.History.{Taken, takes, note, noted, logged, history, lentHere, since, gathered, follows, numbered, Opens}
@@ -87,8 +87,8 @@ module _ (B : ℕ) (p : List ℕ) (h : Header) (read : headerOf p ≡ Good h) wh
   at-long i st (Good g) again =
       let same : Good g ≡ Good h = sym again ∙ read in
       let k : g ≡ h = cc in
-      subst (λ (x : Header). takes (land B i (opening (isEmpty (slotAt i st)) st) x p (gateOf i st x) .said) ≡ true → lead (h .som) ≤ length p) (sym k)
-      (land-long i (opening (isEmpty (slotAt i st)) st) (gateOf i st h))
+      subst (λ (x : Header). takes (land B i (countedOpening (isEmpty (slotAt i st)) st) x p (gateOf i st x) .said) ≡ true → lead (h .som) ≤ length p) (sym k)
+      (land-long i (countedOpening (isEmpty (slotAt i st)) st) (gateOf i st h))
 
   pub taken-long : (st : Stack) (room : ℕ) → takes (receiveOf B st room p .said) ≡ true → lead (h .som) ≤ length p
   unfolding receiveOf receiveBy Long
@@ -168,7 +168,7 @@ history-read B (c ∷ cs) w H a = history-read B cs (step B c w) (logged B c w H
 abbrev unended : Taken → Bool
 unended t = not (t .header .eom)
 
--- of a slot that collects under K, none of the packets since the newest opening one had EOM
+-- of a slot that collects under K, none of the packets since the newest countedOpening one had EOM
 record Going (H : List Taken) (l : List Reassembler) : Type 0 where
   pub none : (i : ℕ) (K : Key) → collects K (getD l i blankSlot) ≡ true → allOf unended (since K H) ≡ true
 
@@ -345,7 +345,7 @@ module _ (B : ℕ) (w₀ : World) (empty : allOf isEmpty (w₀ .stack .slots) �
       h (as-told (receipt B p w .said) h said) K k
 
 -- from a stack with no slot taken and a full pool, after any calls at all: whenever a packet hands out a message m, the packets taken under its key since the
--- newest opening one carry a message of that key, type and IC, whatever MTU they fit: SOM on the first alone, EOM on the last alone, numbered in turn
+-- newest countedOpening one carry a message of that key, type and IC, whatever MTU they fit: SOM on the first alone, EOM on the last alone, numbered in turn
 pub told-carries : (B : ℕ) (w₀ : World) → allOf isEmpty (w₀ .stack .slots) ≡ true → B * length (w₀ .stack .slots) ≤ length (w₀ .pool)
     → (cs : List Call) (p : List ℕ) (h : ReceiveHandle) → performed B (receive p) (steps B cs w₀) ≡ gives (handleWords h)
     → let m = messageAt B (h .index) (step B (receive p) (steps B cs w₀)) in

@@ -26,18 +26,18 @@ use Rattle.stamp.specs.declared.Timeout.{Timeout}
 use Rattle.slot.specs.declared.State.{State}
 use Rattle.slot.specs.declared.State.the-variants.{Empty, Collecting, Done, HandleOut}
 use Rattle.slot.specs.declared.Reassembler.{Reassembler}
-use Rattle.slot.specs.Slot.{blankSlot, outState, doneState, emptyState, handleTaken, handleIs, isDone, isReply, keptUnder, listed, timeIn, fadedSlot, restated, recookied}
+use Rattle.slot.specs.Slot.{blankSlot, outState, doneState, emptyState, handleTaken, handleIs, isDone, isReply, keptUnder, listed, timeIn, fadedSlot, withState, withSlotCookie}
 use Rattle.slot.specs.Search.{earliest}
 use Rattle.reassemble.specs.Enter.{appended}
 use Rattle.flows.specs.declared.Flow.{Flow}
 use Rattle.flows.specs.Table.{removed}
 use Rattle.fragment.specs.Cutting.{bodyIn}
-use Rattle.state.specs.Stack.{Stack, slotAt, renow}
+use Rattle.state.specs.Stack.{Stack, slotAt, withStamp}
 use Rattle.slot_walks.specs.SlotWalks.{swept, blocked}
 use Rattle.slot.specs.declared.ReceiveHandle.{ReceiveHandle}
 use Rattle.slot.specs.Handle.{nextIssue}
 use Rattle.receiving.specs.Receive.{Receipt}
-use Rattle.handles.specs.declared.Done.the-variants.{Done as Well}
+use Rattle.handles.specs.declared.Done.the-variants.{Well}
 use Rattle.handles.specs.Handles as handles
 use Rattle.handles.specs.Handles.{Lookup, handled, takeOf, bySourceOf}
 use Rattle.sending.specs.Sends.{startSendOf}
@@ -95,7 +95,7 @@ base-early st i h p s b q =
 pub data Fate (B : ℕ) (c : Call) (st : Stack) (k : ℕ) (s′ : Reassembler) : Type 0 where
   stays : s′ ≡ slotAt k st → Fate B c st k s′
   goes : s′ ≡ blankSlot → handleTaken (slotAt k st) ≡ false → (isDone (slotAt k st) ≡ true → ends k c st ≡ true) → Fate B c st k s′
-  found : s′ ≡ restated (HandleOut (nextIssue (st .head .issue))) (slotAt k st) → isDone (slotAt k st) ≡ true → ends k c st ≡ true → Fate B c st k s′
+  found : s′ ≡ withState (HandleOut (nextIssue (st .head .issue))) (slotAt k st) → isDone (slotAt k st) ≡ true → ends k c st ≡ true → Fate B c st k s′
   named : (h : ReceiveHandle) → h .index ≡ k → handleIs (h .issue) (slotAt k st) ≡ true → names h c ≡ true → s′ .len ≤ slotAt k st .len
       → s′ .stamp .clock ≤ slotAt k st .stamp .clock → Fate B c st k s′
   filled : isDone (slotAt k st) ≡ false → handleTaken (slotAt k st) ≡ false → s′ .len ≤ B
@@ -126,7 +126,7 @@ module _ (B : ℕ) (c : Call) (st : Stack) where
       → f (slotAt (h .index) st) .stamp .clock ≤ slotAt (h .index) st .stamp .clock → Fates B c st (handled f h st .stack)
   unfolding handled
   handled-fates f h y l m =
-      pick-cases (λ (o : handles.Outcome). Fates B c st (o .stack))
+      pick-cases (λ (o : handles.Handled). Fates B c st (o .stack))
       (λ e. stored _ (h .index) (f (slotAt (h .index) st)) refl (named h refl (sym (good-is h st) ∙ e) y l m)) (λ _. kept st refl)
 
   -- a lookup whose answer tells what it ends
@@ -138,7 +138,7 @@ module _ (B : ℕ) (c : Call) (st : Stack) where
   take-fates f =
       let i = earliest f (st .slots) in
       pick-cases Looks
-      (λ e why. stored _ i (restated (HandleOut (nextIssue (st .head .issue))) (slotAt i st)) refl
+      (λ e why. stored _ i (withState (HandleOut (nextIssue (st .head .issue))) (slotAt i st)) refl
       (found refl (earliest-done f (st .slots) (ltb-true i (length (st .slots)) e)) (why i (eq-eqb i i refl))))
       (λ _ _. kept st refl)
 
@@ -175,7 +175,7 @@ update-fates : (B t : ℕ) (st : Stack) → Fates B (update t) st (updateOf t st
 unfolding updateOf checked
 update-fates B t st =
     pick-cases P (λ _. kept B (update t) st st refl)
-    (λ a. pick-cases P (λ _. kept B (update t) st (renow (clocked t (st .head .now)) st) refl)
+    (λ a. pick-cases P (λ _. kept B (update t) st (withStamp (clocked t (st .head .now)) st) refl)
     (λ b. record {
       each = λ k. rw (getD-mapped (fadedSlot t) (st .slots) k blankSlot (faded-blank t)) (checked-fate B t st k (and-both _ _ (ap not a) (ap not b)));
       count = length-map (st .slots) (fadedSlot t);
@@ -219,7 +219,7 @@ module _ (peer : Eid) (tag : TagValue) where
       pick-cases P (λ _. kept B (cancelFlow peer tag) st st refl)
       (λ n. pick-cases P (λ _. walk n (st .flows)) (λ _. walk n (removed peer tag (st .flows))))
     where
-      P : handles.Outcome → Type 0
+      P : handles.Handled → Type 0
       P o = Fates B (cancelFlow peer tag) st (o .stack)
 
       fate : ltb 7 (tag .0) ≡ false → (k : ℕ) (s′ : Reassembler) → Walked peer tag (st .slots) k s′ → Fate B (cancelFlow peer tag) st k s′
@@ -245,9 +245,9 @@ fates B (getDeferred source tag) w = source-fates B (getDeferred source tag) (w 
 fates B (getDeferredByCookie cookies) w = take-fates B (getDeferredByCookie cookies) (w .stack) (λ s. listed cookies (s .cookie)) (λ k e. e)
 fates B (fetchMessage h n) w = kept B (fetchMessage h n) (w .stack) (w .stack) refl
 fates B (finishedReceive h) w = handled-fates B (finishedReceive h) (w .stack) (λ s. blankSlot) h (same-self h) (omega arith) (omega arith)
-fates B (returnHandle h) w = handled-fates B (returnHandle h) (w .stack) (restated Done) h (same-self h) (le-refl (slotAt (h .index) (w .stack) .len))
+fates B (returnHandle h) w = handled-fates B (returnHandle h) (w .stack) (withState Done) h (same-self h) (le-refl (slotAt (h .index) (w .stack) .len))
     (le-refl (slotAt (h .index) (w .stack) .stamp .clock))
-fates B (setCookie h cookie) w = handled-fates B (setCookie h cookie) (w .stack) (recookied cookie) h (same-self h) (le-refl (slotAt (h .index) (w .stack) .len))
+fates B (setCookie h cookie) w = handled-fates B (setCookie h cookie) (w .stack) (withSlotCookie cookie) h (same-self h) (le-refl (slotAt (h .index) (w .stack) .len))
     (le-refl (slotAt (h .index) (w .stack) .stamp .clock))
 fates B (setEid n) w = eid-fates B (setEid n) (w .stack) (normalEid n)
 fates B eid w = kept B eid (w .stack) (w .stack) refl

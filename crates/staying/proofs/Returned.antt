@@ -20,7 +20,7 @@ use Rattle.stamp.specs.Stamp.{timeoutOf, isExpired}
 use Rattle.slot.specs.declared.State.{State}
 use Rattle.slot.specs.declared.State.the-variants.{Empty, Collecting, Done, HandleOut}
 use Rattle.slot.specs.declared.Reassembler.{Reassembler}
-use Rattle.slot.specs.Slot.{blankSlot, outState, isDone, isEmpty, handleTaken, handleIs, isReply, keptUnder, listed, slotTime, timeIn, slotTimeout, fadedSlot, restated}
+use Rattle.slot.specs.Slot.{blankSlot, outState, isDone, isEmpty, handleTaken, handleIs, isReply, keptUnder, listed, slotTime, timeIn, slotTimeout, fadedSlot, withState}
 use Rattle.slot.specs.Search.{earliest}
 use Rattle.state.specs.declared.Sizes.{Sizes}
 use Rattle.state.specs.Stack.{Stack, Kept, stackOf, slotAt}
@@ -116,7 +116,7 @@ module _ (peer : Eid) (tag : TagValue) where
       let freed = swept-frees (st .slots) i y (done-in (slotAt i st) d) b in
       pick-cases P (λ high. absurd (no-both (ltb 7 (tag .0)) high low)) (λ _. pick-cases P (λ _. freed) (λ _. freed))
     where
-      P : handles.Outcome → Type 0
+      P : handles.Handled → Type 0
       P o = slotAt i (o .stack) ≡ blankSlot
 
 -- a lookup has put out the handle of the slot that it tells of
@@ -126,7 +126,7 @@ Looked i r = tellsOf i (r .said) ≡ true → isDone (slotAt i (r .stack)) ≡ f
 take-ends : (i k : ℕ) (st : Stack) → Looked i (takeOf k st)
 unfolding takeOf Looked
 take-ends i k st =
-    let s = restated (HandleOut (nextIssue (st .head .issue))) (slotAt k st) in
+    let s = withState (HandleOut (nextIssue (st .head .issue))) (slotAt k st) in
     pick-cases (Looked i)
     (λ q e. subst (λ (j : ℕ). isDone (getD (set (st .slots) k s) j blankSlot) ≡ false) (eqb-true k i e)
     (ap isDone (getD-set-same (st .slots) k s blankSlot (ltb-true k (length (st .slots)) q))))
@@ -228,7 +228,7 @@ not-found e = no-true (ap isFound e)
 -- a lookup has told h: the message of slot k is under it
 record Takes (k : ℕ) (st : Stack) (h : ReceiveHandle) (r : Lookup) : Type 0 where
   pub index : h .index ≡ k
-  pub slot : slotAt k (r .stack) ≡ restated (HandleOut (h .issue)) (slotAt k st)
+  pub slot : slotAt k (r .stack) ≡ withState (HandleOut (h .issue)) (slotAt k st)
   pub count : length (r .stack .slots) ≡ length (st .slots)
 
 takes : (k : ℕ) (st : Stack) (h : ReceiveHandle) → takeOf k st .said ≡ Found h → Takes k st h (takeOf k st)
@@ -236,10 +236,10 @@ unfolding takeOf
 takes k st h =
     pick-cases (λ (r : Lookup). r .said ≡ Found h → Takes k st h r)
     (λ q e. let z : record { index = k; issue = nextIssue (st .head .issue) } ≡ h = cc in
-    let s = restated (HandleOut (nextIssue (st .head .issue))) (slotAt k st) in
+    let s = withState (HandleOut (nextIssue (st .head .issue))) (slotAt k st) in
     record {
       index = ap (λ (x : ReceiveHandle). x .index) (sym z);
-      slot = getD-set-same (st .slots) k s blankSlot (ltb-true k (length (st .slots)) q) ∙ ap (λ (x : ReceiveHandle). restated (HandleOut (x .issue)) (slotAt k st)) z;
+      slot = getD-set-same (st .slots) k s blankSlot (ltb-true k (length (st .slots)) q) ∙ ap (λ (x : ReceiveHandle). withState (HandleOut (x .issue)) (slotAt k st)) z;
       count = length-set (st .slots) k s;
     })
     (λ _ e. absurd (not-found e))
@@ -248,8 +248,8 @@ takes k st h =
 take-fetches : (B k : ℕ) (w : World) (h : ReceiveHandle) (r : Lookup) → B * length (w .stack .slots) ≤ length (w .pool) → Takes k (w .stack) h r
     → Fetches B h (messageAt B (h .index) w) (record { stack = r .stack; pool = w .pool })
 take-fetches B k w h r room t =
-    let at : slotAt (h .index) (r .stack) ≡ restated (HandleOut (h .issue)) (slotAt (h .index) (w .stack)) =
-    subst (λ (x : ℕ). slotAt x (r .stack) ≡ restated (HandleOut (h .issue)) (slotAt x (w .stack))) (sym (t .index)) (t .slot) in
+    let at : slotAt (h .index) (r .stack) ≡ withState (HandleOut (h .issue)) (slotAt (h .index) (w .stack)) =
+    subst (λ (x : ℕ). slotAt x (r .stack) ≡ withState (HandleOut (h .issue)) (slotAt x (w .stack))) (sym (t .index)) (t .slot) in
     record {
       facts = messageIn B (h .index) (slotAt (h .index) (r .stack));
       fetched = fetch-good B h (r .stack) (length (w .pool)) (good-is h (r .stack) ∙ (ap (handleIs (h .issue)) at ∙ eq-eqb (h .issue) (h .issue) refl)) (rw (t .count) room);
@@ -309,7 +309,7 @@ record PutBack (B : ℕ) (h : ReceiveHandle) (w w′ : World) : Type 0 where
 put-back : (B : ℕ) (h : ReceiveHandle) (w : World) → isGood h (w .stack) ≡ true → PutBack B h w (step B (returnHandle h) w)
 unfolding step
 put-back B h w g =
-    let e = handled-slot (restated Done) h (w .stack) g in
+    let e = handled-slot (withState Done) h (w .stack) g in
     record {
       done = ap isDone e;
       message = ap (λ (x : Reassembler). readFrom (w .pool) (messageIn B (h .index) x)) e;

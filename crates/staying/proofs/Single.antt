@@ -28,7 +28,7 @@ use Rattle.flows.specs.declared.Wish.the-variants.{Fresh as AnyTag, Fixed}
 use Rattle.flows.specs.Table.{noFlow, isFlow, standing, removed, Unique}
 use Rattle.flows.proofs.TableLaws.{free-not, removed-unique, removed-gone, set-flow-unique, faded-unique}
 use Rattle.slot.specs.declared.Reassembler.{Reassembler}
-use Rattle.slot.specs.Slot.{blankSlot, isEmpty, keptUnder, listed, restated, recookied}
+use Rattle.slot.specs.Slot.{blankSlot, isEmpty, keptUnder, listed, withState, withSlotCookie}
 use Rattle.slot.specs.declared.State.the-variants.{Done}
 use Rattle.slot.specs.Search.{slotFor, earliest}
 use Rattle.reassemble.specs.declared.Outcome as entered
@@ -45,14 +45,14 @@ use Rattle.receiving.specs.declared.Received.{Received}
 use Rattle.receiving.specs.declared.Received.the-variants.{More, Message as Told, Refused}
 use Rattle.slot.specs.Handle.{nextIssue, handleWords}
 use Rattle.receiving.specs.Conclude.{saidOf, flowsAfter}
-use Rattle.receiving.specs.Receive.{Receipt, settled, land, opening, gateOf, receiveAt, receiveBy, receiveOf}
+use Rattle.receiving.specs.Receive.{Receipt, settled, land, countedOpening, gateOf, receiveAt, receiveBy, receiveOf}
 use Rattle.handles.specs.declared.Done as answers
-use Rattle.handles.specs.declared.Done.the-variants.{Done as Well, Refused as Unwell}
+use Rattle.handles.specs.declared.Done.the-variants.{Well, Refused as Unwell}
 use Rattle.handles.specs.Handles as handles
 use Rattle.handles.specs.Handles.{Lookup, doneAs, handled, takeOf, bySourceOf}
 use Rattle.sending.specs.declared.Send.{Send}
-use Rattle.sending.specs.declared.Carried.{Carried}
-use Rattle.sending.specs.declared.Carried.the-variants.{Under, Refused as Untagged}
+use Rattle.sending.specs.declared.UnderTag.{UnderTag}
+use Rattle.sending.specs.declared.UnderTag.the-variants.{Under, Refused as Untagged}
 use Rattle.sending.specs.declared.SendTag.{SendTag}
 use Rattle.sending.specs.declared.SendTag.the-variants.{Fresh, Given}
 use Rattle.sending.specs.Sends.{Sent, ownedTag, givenTag, tagFor, sendAs, sendTagged, startSendOf}
@@ -93,7 +93,7 @@ module _ (B : ℕ) (p : List ℕ) where
   at-flowing i st Bad read = stay (pick-cases (λ (x : Stack). x .flows ≡ st .flows) (λ _. refl) (λ _. refl)) refl
   at-flowing i st (Good h) read =
       subst (λ (l : List Flow). Flowing l p (receiveAt B i st p (Good h))) (pick-cases (λ (x : Stack). x .flows ≡ st .flows) (λ _. refl) (λ _. refl))
-      (land-flowing h read i (opening (isEmpty (slotAt i st)) st) (gateOf i st h))
+      (land-flowing h read i (countedOpening (isEmpty (slotAt i st)) st) (gateOf i st h))
 
   receive-flowing : (st : Stack) (room : ℕ) → Flowing (st .flows) p (receiveOf B st room p)
   unfolding receiveOf receiveBy
@@ -114,7 +114,7 @@ module _ (B : ℕ) (p : List ℕ) where
 -- ---- a send
 
 module _ (q : Send) where
-  as-flows : (c : Carried) (st : Stack) → sendAs q c st .stack .flows ≡ st .flows
+  as-flows : (c : UnderTag) (st : Stack) → sendAs q c st .stack .flows ≡ st .flows
   unfolding sendAs
   as-flows (Under tag) st = refl
   as-flows (Untagged err) st = refl
@@ -154,12 +154,12 @@ cancel-unique : (peer : Eid) (tag : TagValue) (st : Stack) → Unique (st .flows
 unfolding cancelOf
 cancel-unique peer tag st u = pick-cases P (λ _. u) (λ _. pick-cases P (λ _. u) (λ _. removed-unique peer tag (st .flows) u))
   where
-    P : handles.Outcome → Type 0
+    P : handles.Handled → Type 0
     P o = Unique (o .stack .flows)
 
 handled-flows : (f : Reassembler → Reassembler) (h : ReceiveHandle) (st : Stack) → handled f h st .stack .flows ≡ st .flows
 unfolding handled
-handled-flows f h st = pick-cases (λ (o : handles.Outcome). o .stack .flows ≡ st .flows) (λ _. refl) (λ _. refl)
+handled-flows f h st = pick-cases (λ (o : handles.Handled). o .stack .flows ≡ st .flows) (λ _. refl) (λ _. refl)
 
 take-flows : (i : ℕ) (st : Stack) → takeOf i st .stack .flows ≡ st .flows
 unfolding takeOf
@@ -186,8 +186,8 @@ unique-step B (getDeferredByCookie cookies) w u =
     subst Unique (sym (take-flows (earliest (λ (s : Reassembler). listed cookies (s .cookie)) (w .stack .slots)) (w .stack))) u
 unique-step B (fetchMessage h n) w u = u
 unique-step B (finishedReceive h) w u = subst Unique (sym (handled-flows (λ s. blankSlot) h (w .stack))) u
-unique-step B (returnHandle h) w u = subst Unique (sym (handled-flows (restated Done) h (w .stack))) u
-unique-step B (setCookie h cookie) w u = subst Unique (sym (handled-flows (recookied cookie) h (w .stack))) u
+unique-step B (returnHandle h) w u = subst Unique (sym (handled-flows (withState Done) h (w .stack))) u
+unique-step B (setCookie h cookie) w u = subst Unique (sym (handled-flows (withSlotCookie cookie) h (w .stack))) u
 unique-step B (setEid n) w u = subst Unique (sym (eid-flows (normalEid n) (w .stack))) u
 unique-step B eid w u = u
 unique-step B (isLocalDest p) w u = u
@@ -250,7 +250,7 @@ cancelled-gone peer tag st u =
     pick-cases P (λ _ e. absurd (no-true (ap well e)))
     (λ _. pick-cases P (λ _ e. absurd (no-true (ap well e))) (λ _ e. removed-gone peer tag (st .flows) u))
   where
-    P : handles.Outcome → Type 0
+    P : handles.Handled → Type 0
     P o = o .said ≡ Well → standing peer tag (o .stack .flows) ≡ false
 
 flowing-gone : (l : List Flow) (p : List ℕ) (r : Receipt) → Unique l → (g : Header) → headerOf p ≡ Good g → g .key .owner ≡ false → hands (r .said) ≡ true → Flowing l p r

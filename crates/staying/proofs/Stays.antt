@@ -15,7 +15,7 @@ use Rattle.mctp.specs.declared.Cookie.{Cookie}
 use Rattle.slot.specs.declared.State.{State}
 use Rattle.slot.specs.declared.State.the-variants.{Empty, Collecting, Done, HandleOut}
 use Rattle.slot.specs.declared.Reassembler.{Reassembler}
-use Rattle.slot.specs.Slot.{blankSlot, outState, issueIs, handleTaken, handleIs, recookied}
+use Rattle.slot.specs.Slot.{blankSlot, outState, issueIs, handleTaken, handleIs, withSlotCookie}
 use Rattle.reassemble.specs.Enter.{appended}
 use Rattle.fragment.specs.Cutting.{bodyIn}
 use Rattle.state.specs.declared.Sizes.{Sizes}
@@ -29,7 +29,7 @@ use Rattle.handles.specs.declared.Message.{Message as Facts}
 use Rattle.handles.specs.declared.Fetched.{Fetched as Said}
 use Rattle.handles.specs.declared.Fetched.the-variants.{Message as Give, Refused as Unfetched}
 use Rattle.handles.specs.Handles as handles
-use Rattle.handles.specs.Handles.{isGood, handled, cookieOf, messageIn, fetchOf}
+use Rattle.handles.specs.Handles.{isGood, handled, setCookieOf, messageIn, fetchOf}
 use Rattle.estack.specs.Basics.{freshStack}
 use Rattle.promises.specs.Calls.{Call, receive, setCookie, World, step, steps, receipt, performed}
 use Rattle.promises.specs.Delivery.{Message, readFrom, messageAt, Hands, allOf}
@@ -265,7 +265,7 @@ handed-stays B m p calls w d ok =
 pub handled-slot : (f : Reassembler → Reassembler) (h : ReceiveHandle) (st : Stack) → isGood h st ≡ true → slotAt (h .index) (handled f h st .stack) ≡ f (slotAt (h .index) st)
 unfolding handled
 handled-slot f h st g =
-    ap (λ (o : handles.Outcome). slotAt (h .index) (o .stack)) (pick-true (isGood h st) _ _ g)
+    ap (λ (o : handles.Handled). slotAt (h .index) (o .stack)) (pick-true (isGood h st) _ _ g)
     ∙ getD-set-same (st .slots) (h .index) (f (slotAt (h .index) st)) blankSlot
     (passes-in (handleIs (h .issue)) blankSlot refl (st .slots) (h .index) (sym (good-is h st) ∙ g))
 
@@ -275,8 +275,8 @@ pub cookie-set : (B : ℕ) (h : ReceiveHandle) (cookie : Cookie) (w : World) →
     × (messageAt B (h .index) (step B (setCookie h cookie) w) ≡ withCookie cookie (messageAt B (h .index) w))
 unfolding step
 cookie-set B h cookie w g =
-    let e = handled-slot (recookied cookie) h (w .stack) g in (
-      good-is h (cookieOf h cookie (w .stack) .stack) ∙ (ap (handleIs (h .issue)) e ∙ (sym (good-is h (w .stack)) ∙ g)),
+    let e = handled-slot (withSlotCookie cookie) h (w .stack) g in (
+      good-is h (setCookieOf h cookie (w .stack) .stack) ∙ (ap (handleIs (h .issue)) e ∙ (sym (good-is h (w .stack)) ∙ g)),
       ap (λ (x : Reassembler). readFrom (w .pool) (messageIn B (h .index) x)) e,
     )
 

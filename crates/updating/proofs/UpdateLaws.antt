@@ -12,8 +12,8 @@ use Rattle.flows.specs.Table.{fadedFlow}
 use Rattle.slot.specs.Slot.{fadedSlot}
 use Rattle.state.specs.declared.Head.{Head}
 use Rattle.state.specs.declared.Sizes.{Sizes}
-use Rattle.state.specs.Head.{renowed, replanned}
-use Rattle.state.specs.Stack.{Stack, Becomes, stackOf, rehead, renow, reslots, reflows}
+use Rattle.state.specs.Head.{withNow, withPlanned}
+use Rattle.state.specs.Stack.{Stack, Becomes, stackOf, withHead, withStamp, withSlots, withFlows}
 use Rattle.state.proofs.StackLaws.{andThen}
 use Rattle.stamp.specs.declared.Check.{Check}
 use Rattle.stamp.specs.Checks.{checkOf}
@@ -30,16 +30,16 @@ clock-taken t s h =
     pick-cases (λ (u : EventStamp). u .clock ≡ t) (λ _. refl) (λ e. let l = ltb-false (s .clock) t e in omega arith)
 
 module _ (z : Sizes) (b x : List ℕ) (clock : ℕ) (h : Head) (s : EventStamp) (e : h ≡ stackOf z b .head) (f : s ≡ clocked clock (h .now)) where
-  pub clock-put : Becomes z b x (rehead (replanned (h .«next_timeout») (renowed s h)) (stackOf z b)) → Becomes z b x (renow (clocked clock (stackOf z b .head .now)) (stackOf z b))
+  pub clock-put : Becomes z b x (withHead (withPlanned (h .«next_timeout») (withNow s h)) (stackOf z b)) → Becomes z b x (withStamp (clocked clock (stackOf z b .head .now)) (stackOf z b))
   clock-put p =
-      let q = subst (λ (t : EventStamp). Becomes z b x (rehead (renowed t h) (stackOf z b))) f p in
-      subst (λ (k : Head). Becomes z b x (rehead (renowed (clocked clock (k .now)) k) (stackOf z b))) e q
+      let q = subst (λ (t : EventStamp). Becomes z b x (withHead (withNow t h) (stackOf z b))) f p in
+      subst (λ (k : Head). Becomes z b x (withHead (withNow (clocked clock (k .now)) k) (stackOf z b))) e q
 
 -- slots from b to x, flows from x to y
 abbrev start : Check
 start = record { least = interval; expired = false }
 
-module _ (z : Sizes) (b x y : List ℕ) (clock : ℕ) (s c : Check) (p : Met z b (checkOf (slotTimes clock (stackOf z b)) start) (reslots (map (fadedSlot clock) (stackOf z b .slots)) (stackOf z b)) s x) (q : Met z x (checkOf (flowTimes clock (stackOf z x)) s) (reflows (map (fadedFlow clock) (stackOf z x .flows)) (stackOf z x)) c y) where
+module _ (z : Sizes) (b x y : List ℕ) (clock : ℕ) (s c : Check) (p : Met z b (checkOf (slotTimes clock (stackOf z b)) start) (withSlots (map (fadedSlot clock) (stackOf z b .slots)) (stackOf z b)) s x) (q : Met z x (checkOf (flowTimes clock (stackOf z x)) s) (withFlows (map (fadedFlow clock) (stackOf z x .flows)) (stackOf z x)) c y) where
   abbrev st : Stack
   st = stackOf z b
 
@@ -50,7 +50,7 @@ module _ (z : Sizes) (b x y : List ℕ) (clock : ℕ) (s c : Check) (p : Met z b
   faded = record { head = st .head; flows = map (fadedFlow clock) (st .flows); slots = map (fadedSlot clock) (st .slots) }
 
   fades : Becomes z b y faded
-  fades = andThen z (λ (t : Stack). reflows (map (fadedFlow clock) (t .flows)) t) b x y (reslots (map (fadedSlot clock) (st .slots)) st) (p .1) (q .1)
+  fades = andThen z (λ (t : Stack). withFlows (map (fadedFlow clock) (t .flows)) t) b x y (withSlots (map (fadedSlot clock) (st .slots)) st) (p .1) (q .1)
 
   -- the check that is planned is at most 100 ms away
   pub plan-soon : (n : ℕ) (h : Head) → n ≡ plannedAt clock (c .least) → clock ≡ st .head .now .clock → h ≡ stackOf z y .head → n ≤ h .now .clock + 100
@@ -60,11 +60,11 @@ module _ (z : Sizes) (b x y : List ℕ) (clock : ℕ) (s c : Check) (p : Met z b
       let u : h .now .clock ≡ st .head .now .clock = ap (λ (d : Head). d .now .clock) f ∙ ap (λ (t : Stack). t .head .now .clock) (fades .view) in
       omega arith
 
-  pub checks : (n : ℕ) (h : Head) (w : List ℕ) → n ≡ plannedAt clock (c .least) → h ≡ stackOf z y .head → Becomes z y w (rehead (replanned n (renowed (h .now) h)) (stackOf z y))
+  pub checks : (n : ℕ) (h : Head) (w : List ℕ) → n ≡ plannedAt clock (c .least) → h ≡ stackOf z y .head → Becomes z y w (withHead (withPlanned n (withNow (h .now) h)) (stackOf z y))
       → Met z b (checked clock st .said) (checked clock st .stack) (Next (c .least) (c .expired)) w
   unfolding checked
   checks n h w e f r =
-      let g = subst (λ (k : Head). Becomes z y w (rehead (replanned n k) (stackOf z y))) f r in
-      let a = andThen z (λ (t : Stack). rehead (replanned n (t .head)) t) b y w faded fades g in
+      let g = subst (λ (k : Head). Becomes z y w (withHead (withPlanned n k) (stackOf z y))) f r in
+      let a = andThen z (λ (t : Stack). withHead (withPlanned n (t .head)) t) b y w faded fades g in
       let m = e ∙ ap (λ (d : Check). plannedAt clock (d .least)) found in
-      (ap (λ (d : Check). Next (d .least) (d .expired)) found, subst (λ (i : ℕ). Becomes z b w (rehead (replanned i (st .head)) faded)) m a)
+      (ap (λ (d : Check). Next (d .least) (d .expired)) found, subst (λ (i : ℕ). Becomes z b w (withHead (withPlanned i (st .head)) faded)) m a)

@@ -12,8 +12,8 @@ use Rattle.mctp.specs.Answer.{Answer, gives, refuses, flagWord}
 use Rattle.stamp.specs.Stamp.{clocked}
 use Rattle.flows.specs.Table.{fadedFlow}
 use Rattle.slot.specs.Slot.{fadedSlot}
-use Rattle.state.specs.Head.{replanned}
-use Rattle.state.specs.Stack.{Stack, renow}
+use Rattle.state.specs.Head.{withPlanned}
+use Rattle.state.specs.Stack.{Stack, withStamp}
 use Rattle.stamp.specs.Checks.{leastLeft, anyExpired}
 use Rattle.state.specs.Times.{slotTimes, flowTimes}
 use Rattle.updating.specs.declared.Updated.{Updated}
@@ -48,7 +48,7 @@ plannedAt now least = min (now + least) 18446744073709551615
 unfoldable pub checked : ℕ → Stack → Update
 checked now st = record {
   stack = record {
-    head = replanned (plannedAt now (leastOf now st)) (st .head);
+    head = withPlanned (plannedAt now (leastOf now st)) (st .head);
     flows = map (fadedFlow now) (st .flows);
     slots = map (fadedSlot now) (st .slots);
   };
@@ -59,5 +59,5 @@ unfoldable pub updateOf : ℕ → Stack → Update
 updateOf now st =
     pick (ltb now (st .head .now .clock)) (record { stack = st; said = Refused InvalidInput })
     (pick (ltb now (st .head .«next_timeout»))
-    (record { stack = renow (clocked now (st .head .now)) st; said = Next (st .head .«next_timeout» - now) false })
-    (checked now (renow (clocked now (st .head .now)) st)))
+    (record { stack = withStamp (clocked now (st .head .now)) st; said = Next (st .head .«next_timeout» - now) false })
+    (checked now (withStamp (clocked now (st .head .now)) st)))

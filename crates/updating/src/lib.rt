@@ -3,8 +3,8 @@
 // Leans on `slot_walks` and `flow_walks` for what expires, on `state` for the clock and the planned check.
 ghost use mathlib.Core.Path.{_≡_};
 ghost use Prim.Native.Nat.{_+_, _≤_, _<_, min};
-ghost use Rattle.state.specs.Head.{renowed, replanned};
-ghost use Rattle.state.specs.Stack.{Kept, Becomes, stackOf, rehead};
+ghost use Rattle.state.specs.Head.{withNow, withPlanned};
+ghost use Rattle.state.specs.Stack.{Kept, Becomes, stackOf, withHead};
 ghost use Rattle.updating.specs.Update.{updateOf, checked, plannedAt};
 use mctp::Error;
 use stamp::Check;
@@ -21,7 +21,7 @@ pub enum Updated {
 pub const TIMEOUT_INTERVAL: u32 = 100;
 
 // The planned check stops at 2^64 - 1.
-fn planned(clock: u64, least: u32) -> u64
+fn plan_check(clock: u64, least: u32) -> u64
     ensures { λ r. ⌜ r ≡ plannedAt clock least ⌝ }
 {
     if 18446744073709551615 - clock < (least as u64) {
@@ -32,7 +32,7 @@ fn planned(clock: u64, least: u32) -> u64
 
 fn put_clock(state: &mut [u8], sizes: Sizes, h: Head, stamp: EventStamp, next_timeout: u64)
     requires { ⌜ Kept sizes (now state) × (h ≡ stackOf sizes (now state) .head) × («next_timeout» ≤ stamp .clock + 100) ⌝ }
-    ensures { λ _. ⌜ Becomes sizes (now (state .entry)) (now (state .exit)) (rehead (replanned «next_timeout» (renowed stamp h)) (stackOf sizes (now (state .entry)))) ⌝ }
+    ensures { λ _. ⌜ Becomes sizes (now (state .entry)) (now (state .exit)) (withHead (withPlanned «next_timeout» (withNow stamp h)) (stackOf sizes (now (state .entry)))) ⌝ }
 {
     state::put_head(state, sizes, h.with_clock(stamp, next_timeout));
 }
@@ -49,7 +49,7 @@ fn check(state: &mut [u8], sizes: Sizes, clock: u64) -> Updated
     let slots = slot_walks::expire_slots(state, sizes, clock, start);
     let c = flow_walks::expire_flows(state, sizes, clock, slots);
     let h = state::head_at(state, sizes);
-    put_clock(state, sizes, h, h.now, planned(clock, c.least));
+    put_clock(state, sizes, h, h.now, plan_check(clock, c.least));
     Updated::Next {
         millis: c.least as u64,
         expired: c.expired,

@@ -3,6 +3,7 @@
 #[cfg(board)]
 use oracle::board::Board;
 use oracle::compare::{random, words, Difference, Limits};
+use oracle::cover::{OUTSIDE, RARE};
 use oracle::model::Model;
 use oracle::original::Original;
 use oracle::port::Port;
@@ -11,7 +12,7 @@ use std::process::ExitCode;
 use std::time::Duration;
 
 const USAGE: &str = "\
-usage: compare REFERENCE SUBJECT [--seed N] [--calls N] [--seconds N] [--words DEPTH]
+usage: compare REFERENCE SUBJECT [--seed N] [--calls N] [--seconds N] [--least N] [--words DEPTH]
   original model   the original against the model, within the domain of equality
   original board   the original against the proved port, within the domain of equality
   model board      the model against the proved port, all calls
@@ -19,6 +20,7 @@ usage: compare REFERENCE SUBJECT [--seed N] [--calls N] [--seconds N] [--words D
   --seed N         the first episode's seed (1)
   --calls N        stop after so many random calls (1000000, or no limit with --seconds)
   --seconds N      stop after so many seconds of random calls
+  --least N        fail below so many calls, or where what such a run must reach (cover.rs) was never reached
   --words DEPTH    no random calls: all sequences of DEPTH letters from every start";
 
 #[derive(Default)]
@@ -27,6 +29,7 @@ struct Options {
     seed: Option<u64>,
     calls: Option<u64>,
     seconds: Option<u64>,
+    least: Option<u64>,
     words: Option<u64>,
 }
 
@@ -38,6 +41,7 @@ fn options() -> Option<Options> {
             "--seed" => &mut options.seed,
             "--calls" => &mut options.calls,
             "--seconds" => &mut options.seconds,
+            "--least" => &mut options.least,
             "--words" => &mut options.words,
             _ => {
                 options.ports.push(arg);
@@ -87,6 +91,20 @@ impl Options {
             _ => None,
         }
     }
+
+    /// What a run without a difference lacks of what was asked of it.
+    fn lack(&self, tally: &Tally) -> Option<String> {
+        let least = self.least?;
+        let outside: &[&str] = if self.ports[0] == "original" { &OUTSIDE } else { &[] };
+        let missing = tally.missing(&[&RARE, outside]);
+        if tally.calls < least {
+            return Some(format!(
+                "TOO FEW: {} calls compared without a difference, at least {least} are asked",
+                tally.calls
+            ));
+        }
+        (!missing.is_empty()).then(|| format!("NEVER REACHED in {} calls: {}", tally.calls, missing.join("; ")))
+    }
 }
 
 fn main() -> ExitCode {
@@ -97,12 +115,17 @@ fn main() -> ExitCode {
         eprintln!("{USAGE}");
         return ExitCode::from(2);
     };
+    let lack = options.and_then(|o| o.lack(&tally));
     print!("{tally}");
-    let missing = tally.missing();
+    let missing = tally.missing(&[]);
     if !missing.is_empty() {
         println!("\nnever: {}", missing.join("; "));
     }
     match result {
+        Ok(_) if lack.is_some() => {
+            println!("\n{}", lack.unwrap_or_default());
+            ExitCode::FAILURE
+        }
         Ok(ran) => {
             println!("\n{ran}: {} calls compared, {} passed over, no difference", tally.calls, tally.passed);
             ExitCode::SUCCESS

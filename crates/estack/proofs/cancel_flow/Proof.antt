@@ -6,7 +6,7 @@ use borrow.Author.Needs.{needs}
 use Rattle.octets.specs.Pick.{pick}
 use Rattle.flows.specs.Table.{removed}
 use Rattle.state.proofs.StackLaws.{stays, andThen}
-use Rattle.state.specs.Stack.{Stack, stackOf, reslots, reflows}
+use Rattle.state.specs.Stack.{Stack, stackOf, withSlots, withFlows}
 use Rattle.slot_walks.specs.SlotWalks.{swept}
 use Rattle.estack.specs.Basics.{cancelOf}
 use Rattle.estack.proofs.cancel_flow.Statement.{statement}
@@ -45,7 +45,7 @@ returns-3 c =
     let peer = s .args .source in
     let tag = s .args .tag in
     let st = stackOf z b in
-    let p = andThen z (λ (t : Stack). reflows (removed peer tag (t .flows)) t) b _ _ (reslots (swept peer tag (st .slots)) st) (c .before .before .before .before .before .before .before .sweep .ensures .1) (c .before .before .remove-flow .ensures) in
+    let p = andThen z (λ (t : Stack). withFlows (removed peer tag (t .flows)) t) b _ _ (withSlots (swept peer tag (st .slots)) st) (c .before .before .before .before .before .before .before .sweep .ensures .1) (c .before .before .remove-flow .ensures) in
     rw (le-ltb 7 (tag .0) (c .before .before .before .before .before .before .before .before .before .if1 .left), sym (c .before .before .before .before .before .before .before .sweep .ensures .0) ∙ c .before .before .before .before .if2 .left) (refl, p)
 
 pub cancel-flow-spec : {M : Type 1} → statement M

@@ -7,7 +7,7 @@ use Rattle.octets.specs.Bytes.{lay}
 use Rattle.octets.proofs.Tests.{picks}
 use Rattle.state.proofs.Fresh as fresh
 use Rattle.state.proofs.StackLaws.{andThen}
-use Rattle.state.specs.Stack.{Stack, rehead}
+use Rattle.state.specs.Stack.{Stack, withHead}
 use Rattle.state.specs.Layout.{SizesOk, size}
 use Rattle.estack.specs.Basics.{newSays, freshHead}
 use Rattle.estack.proofs.new.Statement.{statement}
@@ -55,7 +55,7 @@ returns-5 c =
     let b = now (s .args .state) in
     let ok : SizesOk z = record { slots = c .before .before .before .before .before .before .before .before .before .before .before .before .if2 .left; body = c .before .before .before .before .before .before .before .before .before .before .if3 .left } in
     let h = freshHead (s .args .own) (s .args .mtu) (s .args .clock) in
-    (search picks, andThen z (λ (t : Stack). rehead h t) b (lay 0 (replicate (size z) 0) b) _ (fresh.freshStack z) (fresh.fresh-becomes z b ok (search needs)) (rw (c .before .before .before .before .before .before .clear .ensures) at (c .before .before .put-head .ensures)))
+    (search picks, andThen z (λ (t : Stack). withHead h t) b (lay 0 (replicate (size z) 0) b) _ (fresh.freshStack z) (fresh.fresh-becomes z b ok (search needs)) (rw (c .before .before .before .before .before .before .clear .ensures) at (c .before .before .put-head .ensures)))
 
 pub new-spec : {M : Type 1} → statement M
 new-spec =

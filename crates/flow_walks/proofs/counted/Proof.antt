@@ -3,7 +3,7 @@ use Rattle.octets.specs.Pick.{pick-true, pick-false}
 use Rattle.stamp.specs.declared.EventStamp.{EventStamp}
 use Rattle.stamp.specs.Stamp.{next}
 use Rattle.flows.specs.Table.{counted}
-use Rattle.state.specs.Stack.{stackOf, renow}
+use Rattle.state.specs.Stack.{stackOf, withStamp}
 use Rattle.state.proofs.StackLaws.{stays}
 use Rattle.state.proofs.Steps.{becomes-as}
 use denote.Ref.{now}
@@ -27,7 +27,7 @@ returns c =
     let st = stackOf z b in
     let s = st .head .now in
     let e : next s ≡ counted (a .expires) s = sym (pick-true (a .expires) (next s) s (c .before .before .before .before .if1 .taken)) in
-    (t .ensures .0 ∙ e, becomes-as z b (t .last .0) (ap (λ (n : EventStamp). renow n st) e) (t .ensures .1))
+    (t .ensures .0 ∙ e, becomes-as z b (t .last .0) (ap (λ (n : EventStamp). withStamp n st) e) (t .ensures .1))
 
 now-at-requires : tie.Need-now-at-requires
 now-at-requires c κs = search needs
@@ -44,7 +44,7 @@ returns-2 c =
     let st = stackOf z b in
     let s = st .head .now in
     let e : s ≡ counted (a .expires) s = sym (pick-false (a .expires) (next s) s (c .before .before .if1 .left)) in
-    (c .now-at .ensures ∙ e, becomes-as z b b (ap (λ (n : EventStamp). renow n st) e) (stays z b (start .pre)))
+    (c .now-at .ensures ∙ e, becomes-as z b b (ap (λ (n : EventStamp). withStamp n st) e) (stays z b (start .pre)))
 
 pub counted-spec : {M : Type 1} → statement M
 counted-spec =

@@ -5,7 +5,7 @@ use Rattle.mctp.specs.declared.Error.the-variants.{TagUnavailable}
 use Rattle.flows.specs.declared.Granted.the-variants.{Refused}
 use Rattle.flows.specs.Tags.{freeTagOf}
 use Rattle.flows.specs.Table.{Table, Flowed, usedTags, turned, insertFlow}
-use Rattle.flow_walks.specs.FlowWalks.{tableOf, retable}
+use Rattle.flow_walks.specs.FlowWalks.{tableOf, withTable}
 use Rattle.flow_walks.proofs.FlowSends.{sent-as, sent-then, free-small, fresh-found, fresh-none}
 use mathlib.Core.Path.{_≡_, refl, sym, ap, _∙_}
 use Prim.Native.Nat.{ℕ, _%_}
@@ -51,7 +51,7 @@ returns c =
     let p = c .before .before .insert-flow in
     let tag = c .before .before .before .before .before .tag .given .0 .0 in
     let f : Table → Flowed = insertFlow (a .peer) tag (a .expires) (a .cookie) in
-    let both = sent-then z b (t .last .0) (p .last .0) (retable (turned (tableOf st)) st) (p .result) f (t .ensures .1) (p .ensures) in
+    let both = sent-then z b (t .last .0) (p .last .0) (withTable (turned (tableOf st)) st) (p .result) f (t .ensures .1) (p .ensures) in
     sent-as z b (p .last .0) st (p .result) _ _ (sym (fresh-found (a .peer) tag (a .expires) (a .cookie) (tableOf st) found)) both
 
 same-length-2 : tie.Need-same-length-2

@@ -1,5 +1,5 @@
 -- `insert_flow` meets its contract: the event is counted first, and a new flow goes to the first free place, if there is one.
-use Rattle.state.specs.Stack.{stackOf, Stack, reflow, renow}
+use Rattle.state.specs.Stack.{stackOf, Stack, withFlow, withStamp}
 use denote.Ref.{now}
 use Rattle.octets.specs.Find.{find}
 use Rattle.stamp.specs.declared.EventStamp.{EventStamp}
@@ -57,12 +57,12 @@ returns c =
     let p = c .before .before .put-flow in
     let s = counted (a .expires) (st .head .now) in
     let i = find isFree (st .flows) in
-    let held = renow s st in
+    let held = withStamp s st in
     let e = c .before .before .before .before .before .before .find-free .ensures .0 ∙ ap (λ (x : Stack). find isFree (x .flows)) (n .ensures .1 .view) in
     let h : i < length (st .flows) = omega (arith, flows-length z b, e, c .before .before .before .before .before .if1 .taken) in
     let made = f .ensures ∙ ap (λ (x : EventStamp). newFlow (a .peer) (a .tag) (a .expires) (a .cookie) x) (n .ensures .0) in
-    let stored = ap (λ (j : ℕ). reflow j (f .result) held) e ∙ ap (λ (x : Flow). reflow i x held) made in
-    let both = andThen z (reflow (c .before .before .before .before .before .before .find-free .result) (f .result)) b (n .last .0) (p .last .0) held (n .ensures .1) (p .ensures) in
+    let stored = ap (λ (j : ℕ). withFlow j (f .result) held) e ∙ ap (λ (x : Flow). withFlow i x held) made in
+    let both = andThen z (withFlow (c .before .before .before .before .before .before .find-free .result) (f .result)) b (n .last .0) (p .last .0) held (n .ensures .1) (p .ensures) in
     sent-as z b (p .last .0) st (Tag (a .tag)) _ _ (sym (insert-room (a .peer) (a .tag) (a .expires) (a .cookie) (tableOf st) h)) (refl, becomes-as z b (p .last .0) stored both)
 
 same-length-2 : tie.Need-same-length-2

@@ -1,5 +1,5 @@
 -- `remove_flow` meets its contract: the place found is cleared, and past the last place there is nothing to clear.
-use Rattle.state.specs.Stack.{stackOf, reflow, reflows}
+use Rattle.state.specs.Stack.{stackOf, withFlow, withFlows}
 use denote.Ref.{now}
 use Rattle.flows.specs.declared.Flow.{Flow}
 use Rattle.flows.specs.Codec.{FlowOk}
@@ -38,8 +38,8 @@ returns c =
     let st = stackOf z b in
     let p = c .before .before .put-flow in
     let f = c .before .before .before .no-flow in
-    let at = ap (λ (j : ℕ). reflow j (f .result) st) (c .before .before .before .before .before .before .find-flow .ensures .0) in
-    becomes-as z b (p .last .0) (at ∙ ap (λ (x : Flow). reflow (flowPlace (a .peer) (a .tag) (st .flows)) x st) (f .ensures)) (p .ensures)
+    let at = ap (λ (j : ℕ). withFlow j (f .result) st) (c .before .before .before .before .before .before .find-flow .ensures .0) in
+    becomes-as z b (p .last .0) (at ∙ ap (λ (x : Flow). withFlow (flowPlace (a .peer) (a .tag) (st .flows)) x st) (f .ensures)) (p .ensures)
 
 same-length-2 : tie.Need-same-length-2
 same-length-2 c = search needs
@@ -54,7 +54,7 @@ returns-2 c =
     let i = flowPlace (a .peer) (a .tag) (st .flows) in
     let e = c .before .find-flow .ensures .0 in
     let h : length (st .flows) ≤ i = omega (arith, flows-length z b, e, c .if1 .left) in
-    becomes-as z b b (ap (λ (l : List Flow). reflows l st) (sym (set-out (st .flows) i noFlow h))) (stays z b (s .pre))
+    becomes-as z b b (ap (λ (l : List Flow). withFlows l st) (sym (set-out (st .flows) i noFlow h))) (stays z b (s .pre))
 
 pub remove-flow-spec : {M : Type 1} → statement M
 remove-flow-spec =

@@ -7,14 +7,14 @@ use Rattle.handles.proofs.finished_receive.Tie as tie
 blank-requires : tie.Need-blank-requires
 blank-requires c κs = search needs
 
-keep-requires : tie.Need-keep-requires
-keep-requires c κs = let s = c .before .before .before in (s .pre, rw (c .blank .ensures) (blank-ok (s .args .sizes .body)))
+put-under-requires : tie.Need-put-under-requires
+put-under-requires c κs = let s = c .before .before .before in (s .pre, rw (c .blank .ensures) (blank-ok (s .args .sizes .body)))
 
 same-length : tie.Need-same-length
 same-length c = search needs
 
 returns : tie.Need-returns
-returns c = rw (c .before .before .before .blank .ensures) at (c .before .before .keep .ensures)
+returns c = rw (c .before .before .before .blank .ensures) at (c .before .before .put-under .ensures)
 
 pub finished-receive-spec : {M : Type 1} → statement M
-finished-receive-spec = tie.close (tie.spec blank-requires keep-requires same-length returns)
+finished-receive-spec = tie.close (tie.spec blank-requires put-under-requires same-length returns)

@@ -3,7 +3,7 @@ use mathlib.Core.Path.{ap, _∙_}
 use denote.Ref.{now}
 use borrow.Author.Needs.{needs}
 use lib.Dec.{lit<}
-use Rattle.slot.specs.Slot.{restated}
+use Rattle.slot.specs.Slot.{withState}
 use Rattle.slot.specs.declared.State.the-variants.{Done as Kept}
 use Rattle.handles.proofs.HandleLaws.{handled-at, restated-ok}
 use Rattle.handles.proofs.return_handle.Statement.{statement}
@@ -15,8 +15,8 @@ slot-at-requires c κs = search needs
 return-handle-requires : tie.Need-return-handle-requires
 return-handle-requires c κs = search needs
 
-keep-requires : tie.Need-keep-requires
-keep-requires c κs =
+put-under-requires : tie.Need-put-under-requires
+put-under-requires c κs =
     let s = c .before .before .before .before .before in
     (s .pre, rw (c .return-handle .ensures) (restated-ok (s .args .sizes .body) (c .before .before .slot-at .result) (c .before .before .slot-at .ensures .1) Kept (lit< tt)))
 
@@ -26,9 +26,9 @@ same-length c = search needs
 returns : tie.Need-returns
 returns c =
     let s = c .before .before .before .before .before .before .before .before in
-    let k = c .before .before .keep in
-    let e = c .before .before .before .return-handle .ensures ∙ ap (restated Kept) (c .before .before .before .before .before .slot-at .ensures .0) in
-    handled-at (s .args .sizes) (restated Kept) (s .args .handle) (now (s .args .state)) e (k .ensures)
+    let k = c .before .before .put-under in
+    let e = c .before .before .before .return-handle .ensures ∙ ap (withState Kept) (c .before .before .before .before .before .slot-at .ensures .0) in
+    handled-at (s .args .sizes) (withState Kept) (s .args .handle) (now (s .args .state)) e (k .ensures)
 
 pub return-handle-spec : {M : Type 1} → statement M
-return-handle-spec = tie.close (tie.spec slot-at-requires return-handle-requires keep-requires same-length returns)
+return-handle-spec = tie.close (tie.spec slot-at-requires return-handle-requires put-under-requires same-length returns)

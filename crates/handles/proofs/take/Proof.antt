@@ -2,7 +2,7 @@
 use mathlib.Core.Path.{ap, _∙_}
 use denote.Ref.{now}
 use borrow.Author.Needs.{needs}
-use Rattle.slot.specs.Slot.{restated}
+use Rattle.slot.specs.Slot.{withState}
 use Rattle.slot.specs.declared.Reassembler.{Reassembler}
 use Rattle.slot.specs.declared.State.the-variants.{HandleOut}
 use Rattle.slot.specs.Handle.{nextIssue}
@@ -39,7 +39,7 @@ returns c =
     let s = c .before .before .before .before .before .before .before .before .before .before .before .before .before .before .before .before .before in
     let n = c .before .before .before .before .before .before .before .before .before .before .before .next-issue .result in
     let e = c .before .before .before .before .before .before .before .before .before .before .before .next-issue .ensures ∙ ap nextIssue (c .before .before .before .before .before .before .before .before .before .before .before .before .issue-at .ensures) in
-    let f = c .before .before .before .before .before .before .before .take-handle .ensures ∙ ap (λ (t : Reassembler). restated (HandleOut n) t) (c .before .before .before .before .before .before .before .before .before .slot-at .ensures .0) in
+    let f = c .before .before .before .before .before .before .before .take-handle .ensures ∙ ap (λ (t : Reassembler). withState (HandleOut n) t) (c .before .before .before .before .before .before .before .before .before .slot-at .ensures .0) in
     taken (s .args .sizes) (now (s .args .state)) (s .args .i) n (c .before .before .before .before .before .before .before .before .before .before .before .before .before .before .if1 .taken) e (rw f at (c .before .before .before .before .before .before .put-slot .ensures)) (c .before .before .put-issue .ensures)
 
 returns-2 : tie.Need-returns-2

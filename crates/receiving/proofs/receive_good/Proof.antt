@@ -21,8 +21,8 @@ use Rattle.receiving.proofs.receive_good.Tie as tie
 find-collecting-requires : tie.Need-find-collecting-requires
 find-collecting-requires c κs = c .before .before .before .before .pre .0
 
-go-on-requires : tie.Need-go-on-requires
-go-on-requires c κs = let p = c .before .before .before .before .before .before .before .before .before .pre in (p .0, p .1, p .2, p .3, p .4, c .before .before .if1 .taken)
+receive-collecting-requires : tie.Need-receive-collecting-requires
+receive-collecting-requires c κs = let p = c .before .before .before .before .before .before .before .before .before .pre in (p .0, p .1, p .2, p .3, p .4, c .before .before .if1 .taken)
 
 same-length : tie.Need-same-length
 same-length c = search needs
@@ -40,7 +40,7 @@ returns c =
     let h = a .h in
     let p = now (a .packet) in
     let B = z .body in
-    let m = c .before .before .before .before .go-on in
+    let m = c .before .before .before .before .receive-collecting in
     let f = c .before .before .before .before .before .before .before .before .before .find-collecting in
     let l : find (collects (h .key)) (st .slots) < length (st .slots) = omega (arith, slots-length z b, f .ensures .0, c .before .before .before .before .before .before .before .if1 .taken) in
     makes-as z (m .result) (ap (λ (j : ℕ). land B j st h p (Pass (slotAt j st))) (f .ensures .0) ∙ sym (good-collecting B st p h l)) (m .ensures)
@@ -48,8 +48,8 @@ returns c =
 find-empty-requires : tie.Need-find-empty-requires
 find-empty-requires c κs = c .before .before .before .before .before .before .before .before .pre .0
 
-open-requires : tie.Need-open-requires
-open-requires c κs =
+receive-opening-requires : tie.Need-receive-opening-requires
+receive-opening-requires c κs =
     let s = c .before .before .before .before .before .before .before .before .before .before .before .before .before in
     let a = s .args in
     let z = a .sizes in
@@ -76,7 +76,7 @@ returns-2 c =
     let h = a .h in
     let p = now (a .packet) in
     let B = z .body in
-    let m = c .before .before .before .before .«open» in
+    let m = c .before .before .before .before .receive-opening in
     let f = c .before .before .before .before .before .before .before .before .before .before .before .before .before .find-collecting in
     let g = c .before .before .before .before .before .before .before .before .before .find-empty in
     let k : length (st .slots) ≤ find (collects (h .key)) (st .slots) = omega (arith, slots-length z b, f .ensures .0, c .before .before .before .before .before .before .before .before .before .before .before .if1 .left) in
@@ -103,12 +103,12 @@ receive-good-spec =
     tie.close
     (tie.spec
     find-collecting-requires
-    go-on-requires
+    receive-collecting-requires
     same-length
     same-length-2
     returns
     find-empty-requires
-    open-requires
+    receive-opening-requires
     same-length-3
     same-length-4
     returns-2

@@ -5,7 +5,7 @@ use mathlib.Core.Path.{ap, _∙_}
 use lib.ListN.{length}
 use denote.Ref.{now}
 use borrow.Author.Needs.{needs}
-use Rattle.state.specs.Stack.{Stack, stackOf, reslot}
+use Rattle.state.specs.Stack.{Stack, stackOf, withSlot}
 use Rattle.state.proofs.StackLaws.{andThen}
 use Rattle.slot.specs.Handle.{nextIssue}
 use Rattle.receiving.specs.Conclude.{saidOf, concluded}
@@ -74,7 +74,7 @@ returns c =
     let m = c .before .before .copy in
     record {
       said = q .ensures .0 ∙ ap (λ (x : Stack). saidOf (a .e .outcome) (a .i) (nextIssue (x .head .issue))) (p .ensures .view);
-      stack = andThen z (concluded (a .e .outcome) (a .key)) b (p .last .0) (q .last .0) (reslot (a .i) (a .e .slot) st) (p .ensures) (q .ensures .1);
+      stack = andThen z (concluded (a .e .outcome) (a .key)) b (p .last .0) (q .last .0) (withSlot (a .i) (a .e .slot) st) (p .ensures) (q .ensures .1);
       bytes = copied (start s) (a .e .from) (now (a .packet)) (now (a .pool)) (room s) (m .last .0) (m .ensures);
     }
 

@@ -8,8 +8,8 @@ use Rattle.octets.specs.Pick.{pick-cases}
 use Rattle.stamp.specs.declared.EventStamp.{EventStamp}
 use Rattle.stamp.specs.Stamp.{next}
 use Rattle.state.specs.declared.Sizes.{Sizes}
-use Rattle.state.specs.Head.{renowed, recounted}
-use Rattle.state.specs.Stack.{Becomes, stackOf, rehead, ticked}
+use Rattle.state.specs.Head.{withNow, withCounter}
+use Rattle.state.specs.Stack.{Becomes, stackOf, withHead, ticked}
 use Rattle.state.proofs.tick.Statement.{statement}
 use Rattle.state.proofs.tick.Tie as tie
 
@@ -18,11 +18,11 @@ unfolding next
 counted s = pick-cases (λ (t : EventStamp). _≡_ {A = EventStamp} (record { clock = s .clock; counter = t .counter }) t) (λ _. refl) (λ _. refl)
 
 ticks : (z : Sizes) (b x : List ℕ) (t : EventStamp) → t ≡ next (stackOf z b .head .now)
-    → Becomes z b x (rehead (recounted (t .counter) (stackOf z b .head)) (stackOf z b)) → Becomes z b x (ticked (stackOf z b))
+    → Becomes z b x (withHead (withCounter (t .counter) (stackOf z b .head)) (stackOf z b)) → Becomes z b x (ticked (stackOf z b))
 ticks z b x t e p =
     let st = stackOf z b in
-    let q = subst (λ (k : EventStamp). Becomes z b x (rehead (recounted (k .counter) (st .head)) st)) e p in
-    subst (λ (k : EventStamp). Becomes z b x (rehead (renowed k (st .head)) st)) (counted (st .head .now)) q
+    let q = subst (λ (k : EventStamp). Becomes z b x (withHead (withCounter (k .counter) (st .head)) st)) e p in
+    subst (λ (k : EventStamp). Becomes z b x (withHead (withNow k (st .head)) st)) (counted (st .head .now)) q
 
 now-at-requires : tie.Need-now-at-requires
 now-at-requires c κs = search needs

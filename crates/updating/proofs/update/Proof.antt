@@ -9,7 +9,7 @@ use borrow.Author.Needs.{needs}
 use Rattle.octets.specs.Pick.{pick}
 use Rattle.stamp.specs.declared.EventStamp.{EventStamp}
 use Rattle.stamp.specs.Stamp.{clocked}
-use Rattle.state.specs.Stack.{Stack, stackOf, renow}
+use Rattle.state.specs.Stack.{Stack, stackOf, withStamp}
 use Rattle.state.specs.declared.Head.{Head}
 use Rattle.state.proofs.StackLaws.{stays}
 use Rattle.updating.specs.Update.{checked, updateOf}
@@ -90,7 +90,7 @@ returns-3 c =
     let k : st .head .now .clock ≤ t = rw h at (c .before .before .before .before .before .before .before .before .before .before .before .if1 .left) in
     let l : st .head .«next_timeout» ≤ t = rw h at (c .before .before .before .before .if2 .left) in
     let p = clock-put z b _ t _ _ h (c .before .before .before .before .before .before .before .before .before .update-clock .ensures) (c .before .before .before .before .before .before .before .put-clock .ensures) in
-    rw (le-ltb t (st .head .now .clock) k, le-ltb t (st .head .«next_timeout») l) (then-says z (λ (u : Stack). checked t u .said) (λ (u : Stack). checked t u .stack) b _ _ (renow (clocked t (st .head .now)) st) _ p (c .before .before .check .ensures))
+    rw (le-ltb t (st .head .now .clock) k, le-ltb t (st .head .«next_timeout») l) (then-says z (λ (u : Stack). checked t u .said) (λ (u : Stack). checked t u .stack) b _ _ (withStamp (clocked t (st .head .now)) st) _ p (c .before .before .check .ensures))
 
 pub update-spec : {M : Type 1} → statement M
 update-spec =

@@ -10,8 +10,8 @@ use Rattle.board.specs.Board.{board, startOf}
 use Rattle.board.proofs.calls.hyphaloom_start_send.Statement.{statement}
 use Rattle.board.proofs.calls.hyphaloom_start_send.Tie as tie
 
-is-lawful-requires : tie.Need-is-lawful-requires
-is-lawful-requires c κs = search needs
+is-good-send-requires : tie.Need-is-good-send-requires
+is-good-send-requires c κs = search needs
 
 send-of-requires : tie.Need-send-of-requires
 send-of-requires c κs = search needs
@@ -29,7 +29,7 @@ returns : tie.Need-returns
 unfolding startOf pick
 returns c =
     let s = c .before .before .before .before .before .before .before .before .before .before in
-    let l = sym (c .before .before .before .before .before .before .before .before .is-lawful .ensures) ∙ c .before .before .before .before .before .before .before .if1 .taken in
+    let l = sym (c .before .before .before .before .before .before .before .before .is-good-send .ensures) ∙ c .before .before .before .before .before .before .before .if1 .taken in
     let u = rw (c .before .before .before .before .before .send-of .ensures) at (c .before .before .before .before .start-send .ensures) in
     let p = c .put-started .ensures in
     rw l (p .0 ∙ ap (λ (x : Started). answerNo (startedAs x)) (u .0), (u .1, p .1 ∙ ap (λ (x : Started). rowAfter 13 (startedAs x) (now (s .args .fragmenter))) (u .0)))
@@ -38,14 +38,14 @@ returns-2 : tie.Need-returns-2
 unfolding startOf pick
 returns-2 c =
     let s = c .before .before .before in
-    let l = sym (c .before .is-lawful .ensures) ∙ c .if1 .left in
+    let l = sym (c .before .is-good-send .ensures) ∙ c .if1 .left in
     rw l (refl, (stays board (now (s .args .state)) (s .pre), refl))
 
 pub hyphaloom-start-send-spec : {M : Type 1} → statement M
 hyphaloom-start-send-spec =
     tie.close
     (tie.spec
-    is-lawful-requires
+    is-good-send-requires
     send-of-requires
     start-send-requires
     put-started-requires

@@ -3,8 +3,8 @@ use mathlib.Core.Path.{sym, _∙_}
 use denote.Ref.{now}
 use borrow.Author.Needs.{needs}
 use Rattle.handles.proofs.HandleLaws.{handled-good, handled-bad}
-use Rattle.handles.proofs.keep.Statement.{statement}
-use Rattle.handles.proofs.keep.Tie as tie
+use Rattle.handles.proofs.put_under.Statement.{statement}
+use Rattle.handles.proofs.put_under.Tie as tie
 
 is-good-requires : tie.Need-is-good-requires
 is-good-requires c κs = search needs
@@ -28,8 +28,8 @@ returns-2 c =
     let s = c .before .before .before .before in
     handled-bad (s .args .sizes) (λ _. s .args .s) (s .args .handle) (now (s .args .state)) (sym (c .before .is-good .ensures) ∙ c .if1 .left) (s .pre .0)
 
-pub keep-spec : {M : Type 1} → statement M
-keep-spec =
+pub put-under-spec : {M : Type 1} → statement M
+put-under-spec =
     tie.close
     (tie.spec
     is-good-requires

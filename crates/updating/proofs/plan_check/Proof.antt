@@ -1,7 +1,7 @@
 -- `planned` stops where the sum would pass 2^64 - 1, and is the sum before.
 use borrow.Author.Needs.{needs}
-use Rattle.updating.proofs.planned.Statement.{statement}
-use Rattle.updating.proofs.planned.Tie as tie
+use Rattle.updating.proofs.plan_check.Statement.{statement}
+use Rattle.updating.proofs.plan_check.Tie as tie
 
 sub-if1 : tie.Need-sub-if1
 sub-if1 c = search needs
@@ -15,5 +15,5 @@ add-result c = search needs
 returns-2 : tie.Need-returns-2
 returns-2 c = search needs
 
-pub planned-spec : {M : Type 1} → statement M
-planned-spec = tie.close (tie.spec sub-if1 returns add-result returns-2)
+pub plan-check-spec : {M : Type 1} → statement M
+plan-check-spec = tie.close (tie.spec sub-if1 returns add-result returns-2)

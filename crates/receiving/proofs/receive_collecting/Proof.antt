@@ -7,8 +7,8 @@ use Rattle.reassemble.specs.declared.Gate.the-variants.{Pass}
 use Rattle.state.specs.Stack.{stackOf}
 use Rattle.receiving.specs.Receive.{land}
 use Rattle.receiving.proofs.Receipts.{makes-as}
-use Rattle.receiving.proofs.go_on.Statement.{statement}
-use Rattle.receiving.proofs.go_on.Tie as tie
+use Rattle.receiving.proofs.receive_collecting.Statement.{statement}
+use Rattle.receiving.proofs.receive_collecting.Tie as tie
 
 progress-at-requires : tie.Need-progress-at-requires
 progress-at-requires c κs = c .before .before .before .before .pre .0
@@ -16,14 +16,14 @@ progress-at-requires c κs = c .before .before .before .before .pre .0
 sub-n : tie.Need-sub-n
 sub-n c = search needs
 
-goes-on-requires : tie.Need-goes-on-requires
-goes-on-requires c κs = c .progress-at .ensures .1 .len
+is-middle-requires : tie.Need-is-middle-requires
+is-middle-requires c κs = c .progress-at .ensures .1 .len
 
-carry-requires : tie.Need-carry-requires
-carry-requires c κs =
+append-middle-requires : tie.Need-append-middle-requires
+append-middle-requires c κs =
     let p = c .before .before .before .before .before .before .before .before .before .pre in
     let g = c .before .before .before .before .progress-at .ensures in
-    (p .0, p .3, p .4, p .5, g .0, g .1 .len, sym (c .before .before .before .goes-on .ensures) ∙ c .before .before .if1 .taken)
+    (p .0, p .3, p .4, p .5, g .0, g .1 .len, sym (c .before .before .before .is-middle .ensures) ∙ c .before .before .if1 .taken)
 
 same-length : tie.Need-same-length
 same-length c = search needs
@@ -32,13 +32,13 @@ same-length-2 : tie.Need-same-length-2
 same-length-2 c = search needs
 
 returns : tie.Need-returns
-returns c = c .before .before .before .before .carry .ensures
+returns c = c .before .before .before .before .append-middle .ensures
 
 slot-at-requires : tie.Need-slot-at-requires
 slot-at-requires c κs = c .before .before .before .before .before .before .before .before .pre .0
 
-enter-requires : tie.Need-enter-requires
-enter-requires c κs =
+feed-requires : tie.Need-feed-requires
+feed-requires c κs =
     let p = c .before .before .before .before .before .before .before .before .before .before .before .pre in
     (p .0, p .1, p .2, p .3, p .4, p .5, c .before .before .slot-at .ensures .1)
 
@@ -53,22 +53,22 @@ returns-2 c =
     let s = c .before .before .before .before .before .before .before .before .before .before .before .before .before .before .before .before in
     let a = s .args in
     let z = a .sizes in
-    let m = c .before .before .before .before .enter in
+    let m = c .before .before .before .before .feed in
     makes-as z (m .result) (ap (λ (x : Reassembler). land (z .body) (a .i) (stackOf z (now (a .state))) (a .h) (now (a .packet)) (Pass x)) (c .before .before .before .before .before .before .before .slot-at .ensures .0)) (m .ensures)
 
-pub go-on-spec : {M : Type 1} → statement M
-go-on-spec =
+pub receive-collecting-spec : {M : Type 1} → statement M
+receive-collecting-spec =
     tie.close
     (tie.spec
     progress-at-requires
     sub-n
-    goes-on-requires
-    carry-requires
+    is-middle-requires
+    append-middle-requires
     same-length
     same-length-2
     returns
     slot-at-requires
-    enter-requires
+    feed-requires
     same-length-3
     same-length-4
     returns-2)

@@ -9,11 +9,11 @@ use Rattle.state.specs.Stack.{Stack, stackOf, ticked}
 use Rattle.receiving.specs.Receive.{land}
 use Rattle.receiving.proofs.Entered.{gate-ok}
 use Rattle.receiving.proofs.Receipts.{makes-as, makes-then, refusal, at-empty, shut-at}
-use Rattle.receiving.proofs.open.Statement.{statement}
-use Rattle.receiving.proofs.open.Tie as tie
+use Rattle.receiving.proofs.receive_opening.Statement.{statement}
+use Rattle.receiving.proofs.receive_opening.Tie as tie
 
-gate-at-requires : tie.Need-gate-at-requires
-gate-at-requires c κs = c .before .before .before .before .pre .0
+gate-empty-requires : tie.Need-gate-empty-requires
+gate-empty-requires c κs = c .before .before .before .before .pre .0
 
 tick-requires : tie.Need-tick-requires
 tick-requires c κs = c .before .before .before .before .before .before .pre .0
@@ -24,15 +24,15 @@ enum-known-gate c = search needs
 enum-known-gate-2 : tie.Need-enum-known-gate-2
 enum-known-gate-2 c = search needs
 
-enter-requires : tie.Need-enter-requires
-enter-requires c κs =
+feed-requires : tie.Need-feed-requires
+feed-requires c κs =
     let s = c .before .before .before .before .before .before .before .before .before .before .before .before .before .before in
     let a = s .args in
     let z = a .sizes in
     let b = now (a .state) in
     let g = c .before .before .before .gate2 .given in
     let ok : HeaderOk (a .h) = record { dest = omega (arith, s .good .1 .1 .1 .1 .0); source = omega (arith, s .good .1 .1 .1 .1 .0); tag = s .pre .1; seq = s .pre .2 } in
-    (c .before .before .before .before .before .before .before .tick .ensures .1 .kept, s .pre .1, s .pre .2, s .pre .3, s .pre .4, s .pre .5, gate-ok z b _ (a .h) (g .0 .0) (s .pre .0) ok (sym (c .before .before .before .before .before .before .before .before .before .gate-at .ensures) ∙ g .1))
+    (c .before .before .before .before .before .before .before .tick .ensures .1 .kept, s .pre .1, s .pre .2, s .pre .3, s .pre .4, s .pre .5, gate-ok z b _ (a .h) (g .0 .0) (s .pre .0) ok (sym (c .before .before .before .before .before .before .before .before .before .gate-empty .ensures) ∙ g .1))
 
 same-length : tie.Need-same-length
 same-length c = search needs
@@ -44,7 +44,7 @@ returns c =
     let z = a .sizes in
     let b = now (a .state) in
     let st = stackOf z b in
-    let g = c .before .before .before .before .before .before .before .gate-at in
+    let g = c .before .before .before .before .before .before .before .gate-empty in
     let t = c .before .before .before .before .before .tick in
     let o = c .before .gate .given in
     let p = now (a .packet) in
@@ -64,23 +64,23 @@ returns-2 c =
     let z = a .sizes in
     let b = now (a .state) in
     let st = stackOf z b in
-    let g = c .before .before .before .before .before .before .before .before .before .before .before .before .before .before .gate-at in
+    let g = c .before .before .before .before .before .before .before .before .before .before .before .before .before .before .gate-empty in
     let t = c .before .before .before .before .before .before .before .before .before .before .before .before .tick in
     let o = c .before .before .before .before .before .before .before .before .gate2 .given in
-    let m = c .before .before .before .before .enter in
+    let m = c .before .before .before .before .feed in
     let p = now (a .packet) in
     makes-as z (m .result) (sym (at-empty (z .body) st p (a .i) (a .h) (Pass (o .0 .0)) (s .pre .6) (sym (o .1) ∙ g .ensures)))
     (makes-then z (m .result) (λ (x : Stack). land (z .body) (a .i) x (a .h) p (Pass (o .0 .0))) (ticked st) (t .ensures .1) (m .ensures))
 
-pub open-spec : {M : Type 1} → statement M
-open-spec =
+pub receive-opening-spec : {M : Type 1} → statement M
+receive-opening-spec =
     tie.close
     (tie.spec
-    gate-at-requires
+    gate-empty-requires
     tick-requires
     enum-known-gate
     enum-known-gate-2
-    enter-requires
+    feed-requires
     same-length
     returns
     same-length-2

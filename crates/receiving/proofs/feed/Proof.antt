@@ -12,8 +12,8 @@ use Rattle.slot.proofs.HandleLaws.{issue-fits}
 use Rattle.receiving.specs.Receive.{settled}
 use Rattle.receiving.proofs.Entered.{entered-ok, ticked-ok}
 use Rattle.receiving.proofs.Receipts.{makes-as, makes-then, lands}
-use Rattle.receiving.proofs.enter.Statement.{statement}
-use Rattle.receiving.proofs.enter.Tie as tie
+use Rattle.receiving.proofs.feed.Statement.{statement}
+use Rattle.receiving.proofs.feed.Tie as tie
 
 tick-requires : tie.Need-tick-requires
 tick-requires c κs = c .before .before .before .before .pre .0
@@ -63,8 +63,8 @@ returns c =
     makes-as z (m .result) (lands (z .body) (a .i) st (a .h) p (a .s) (e .result) (t .result) (n .result) (e .ensures .0) (t .ensures .0) i)
     (makes-then z (m .result) (λ (x : Stack). settled (z .body) (a .i) x (a .h .key) p (e .result)) (ticked st) (t .ensures .1) (m .ensures))
 
-pub enter-spec : {M : Type 1} → statement M
-enter-spec =
+pub feed-spec : {M : Type 1} → statement M
+feed-spec =
     tie.close
     (tie.spec
     tick-requires

@@ -8,8 +8,8 @@ use Rattle.slot.specs.declared.Reassembler.{Reassembler}
 use Rattle.reassemble.specs.declared.Gate.the-variants.{Pass}
 use Rattle.reassemble.specs.Enter.{opening, gateEmpty}
 use Rattle.state.specs.Stack.{stackOf}
-use Rattle.receiving.proofs.gate_at.Statement.{statement}
-use Rattle.receiving.proofs.gate_at.Tie as tie
+use Rattle.receiving.proofs.gate_empty.Statement.{statement}
+use Rattle.receiving.proofs.gate_empty.Tie as tie
 
 -- what was asked is what the definition asks
 asked : (c : tie.After-opens)
@@ -45,8 +45,8 @@ returns-3 : tie.Need-returns-3
 unfolding gateEmpty
 returns-3 c = sym (pick-false _ _ _ (sym (asked (c .before)) ∙ c .if1 .left))
 
-pub gate-at-spec : {M : Type 1} → statement M
-gate-at-spec =
+pub gate-empty-spec : {M : Type 1} → statement M
+gate-empty-spec =
     tie.close
     (tie.spec
     own-eid-requires

@@ -6,14 +6,14 @@ use lib.ListN.{length}
 use denote.Ref.{now}
 use borrow.Author.Needs.{needs}
 use Rattle.state.specs.Slot.{progress}
-use Rattle.state.specs.Stack.{Stack, stackOf, slotAt, reslot, ticked}
+use Rattle.state.specs.Stack.{Stack, stackOf, slotAt, withSlot, ticked}
 use Rattle.state.proofs.StackLaws.{andThen}
 use Rattle.receiving.specs.declared.Received.the-variants.{More}
 use Rattle.receiving.proofs.Entered.{in-pool, copied}
 use Rattle.receiving.proofs.Receipts.{makes-as}
 use Rattle.receiving.proofs.Middle.{goes-room, middle}
-use Rattle.receiving.proofs.carry.Statement.{statement}
-use Rattle.receiving.proofs.carry.Tie as tie
+use Rattle.receiving.proofs.append_middle.Statement.{statement}
+use Rattle.receiving.proofs.append_middle.Tie as tie
 
 -- what the body holds once the packet is in it
 fits : (s : tie.Start) → s .args .p .len + (length (now (s .args .packet)) - 4) ≤ s .args .sizes .body
@@ -94,12 +94,12 @@ returns c =
     makes-as z More (sym (middle (z .body) (a .h) p (slotAt (a .i) st) (a .i) st (a .p) (s .pre .4) (s .pre .5) (s .pre .6)))
     (record {
       said = refl;
-      stack = andThen z (λ (x : Stack). reslot (a .i) (progress ((a .h .seq % 4 + 1) % 4) (a .p .len + n) (slotAt (a .i) x)) x) b (t .last .0) (q .last .0) (ticked st) (t .ensures .1) (q .ensures);
+      stack = andThen z (λ (x : Stack). withSlot (a .i) (progress ((a .h .seq % 4 + 1) % 4) (a .p .len + n) (slotAt (a .i) x)) x) b (t .last .0) (q .last .0) (ticked st) (t .ensures .1) (q .ensures);
       bytes = copied (start s) 4 p (now (a .pool)) (room s) (m .last .0) (m .ensures);
     })
 
-pub carry-spec : {M : Type 1} → statement M
-carry-spec =
+pub append-middle-spec : {M : Type 1} → statement M
+append-middle-spec =
     tie.close
     (tie.spec
     sub-n
