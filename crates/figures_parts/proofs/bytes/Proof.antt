@@ -1,13 +1,14 @@
 -- `bytes` ends: each turn leaves one byte fewer, and it reads only where there is one.
+use Prim.Native.Nat.{_-_}
 use borrow.Author.Needs.{needs}
-use Rattle.bay.proofs.bytes.Statement.{statement}
-use Rattle.bay.proofs.bytes.Tie as tie
+use Rattle.figures_parts.proofs.bytes.Statement.{statement}
+use Rattle.figures_parts.proofs.bytes.Tie as tie
 
 abbrev Inv-loop : tie.InvT-loop
-Inv-loop b at len i₀ left₀ i left = Unit
+Inv-loop b n i₀ i = Unit
 
 abbrev μ-loop : tie.MeasureT-loop
-μ-loop b at len i₀ left₀ i left = left
+μ-loop b n i₀ i = n - i
 
 loop-holds : tie.Need-loop-holds Inv-loop μ-loop
 loop-holds c = search needs
@@ -23,9 +24,6 @@ byte-requires c κs = search needs
 
 add-i : tie.Need-add-i Inv-loop μ-loop
 add-i c = search needs
-
-sub-left : tie.Need-sub-left Inv-loop μ-loop
-sub-left c = search needs
 
 loop-less : tie.Need-loop-less Inv-loop μ-loop
 loop-less c = search needs
@@ -47,7 +45,6 @@ bytes-spec =
     shared-slice-read-byte
     byte-requires
     add-i
-    sub-left
     loop-less
     loop-again
     returns-2)
