@@ -110,8 +110,8 @@ pub extern "C" fn hyphaloom_fragment(
 {
     let f = fragmenter_of(fragmenter);
     let plan = f.plan(payload.len(), out.len());
-    let next = plan.next;
-    let output = plan.output;
+    let next = plan.next(f);
+    let output = plan.output();
     let said = put_step(fragmenter, len, next, output);
     f.write(payload, out);
     said

@@ -3,7 +3,6 @@
 -- Leans on `mctp` for the header's bytes.
 use Prim.Native.Nat.{ℕ, _+_, _-_, _*_, _%_, _≤_, _<_, min}
 use mathlib.Core.Bool.{Bool, true, false}
-use mathlib.Core.Path.{_≡_}
 use mathlib.Core.List.{List, [], _∷_, _++_}
 use lib.Dec.{ltb, leb, eqb}
 use lib.ListN.{length}
@@ -23,7 +22,9 @@ use Rattle.fragment.specs.declared.Fragmenter.{Fragmenter}
 use Rattle.fragment.specs.declared.SendOutput.{SendOutput}
 use Rattle.fragment.specs.declared.SendOutput.the-variants.{Packet, Complete, Error as Failed}
 use Rattle.fragment.specs.declared.Fragmented.{Fragmented}
+use Rattle.fragment.specs.declared.Cut.{Cut}
 use Rattle.fragment.specs.declared.Plan.{Plan}
+use Rattle.fragment.specs.declared.Plan.the-variants.{Still, Emits}
 use Rattle.fragment.specs.declared.Started.{Started}
 use Rattle.fragment.specs.declared.Started.the-variants.{Sends, Refused}
 
@@ -114,34 +115,43 @@ stepOf f payload n =
 
 -- The same step in two parts: a plan, from the sizes of payload and buffer alone, and then the bytes that it writes. `stepOf` is the two together
 -- (`step-planned`).
-abbrev pub stillOf : Fragmenter → SendOutput → Plan
-stillOf f output = record { next = f; output = output; writes = false; header = headerFor f false; kind = 0; from = 0; len = 0 }
-
-abbrev pub emitOf : Fragmenter → ℕ → ℕ → Plan
+abbrev pub emitOf : Fragmenter → ℕ → ℕ → Cut
 emitOf f size n = record {
   next = nextOf f size n;
-  output = Packet (lead (f .first) + fitting f size n);
-  writes = true;
   header = headerFor f (ends f size n);
   kind = typeByte (f .typ) (f .ic);
   from = f .«payload_used»;
   len = fitting f size n;
+  total = lead (f .first) + fitting f size n;
 }
 
 unfoldable pub planOf : Fragmenter → ℕ → ℕ → Plan
 planOf f size n =
-    pick (f .done) (stillOf f (Complete (f .tag) (f .cookie)))
-    (pick (ltb n (lead (f .first))) (stillOf f (Failed NoSpace (f .cookie)))
-    (pick (ltb size (f .«payload_used»)) (stillOf f (Failed InvalidInput (f .cookie))) (emitOf f size n)))
+    pick (f .done) (Still (Complete (f .tag) (f .cookie)))
+    (pick (ltb n (lead (f .first))) (Still (Failed NoSpace (f .cookie)))
+    (pick (ltb size (f .«payload_used»)) (Still (Failed InvalidInput (f .cookie))) (Emits (emitOf f size n))))
+
+-- the fragmenter after a step with that plan: where nothing is written it stays as it was
+unfoldable pub nextBy : Fragmenter → Plan → Fragmenter
+nextBy f (Still output) = f
+nextBy f (Emits c) = c .next
+
+unfoldable pub outputBy : Plan → SendOutput
+outputBy (Still output) = output
+outputBy (Emits c) = Packet (c .total)
 
 unfoldable pub writtenBy : Plan → List ℕ → List ℕ
-writtenBy p payload =
-    pick (p .writes) (headerBytes (p .header) ++ intro (p .header .som) (p .kind) (part (p .from) (p .len) payload)) []
+writtenBy (Still output) payload = []
+writtenBy (Emits c) payload = headerBytes (c .header) ++ intro (c .header .som) (c .kind) (part (c .from) (c .len) payload)
 
--- what a plan writes lies in the payload, and has room in the buffer
-pub record Writable (p : Plan) (size n : ℕ) : Type 0 where
-  pub within : p .writes ≡ true → p .from + p .len ≤ size
-  pub room : p .writes ≡ true → lead (p .header .som) + p .len ≤ n
+-- a packet's body lies in the payload, and the packet has room in the buffer
+pub record Fits (c : Cut) (size n : ℕ) : Type 0 where
+  pub within : c .from + c .len ≤ size
+  pub room : lead (c .header .som) + c .len ≤ n
+
+abbrev pub Writable : Plan → ℕ → ℕ → Type 0
+Writable (Still output) size n = Unit
+Writable (Emits c) size n = Fits c size n
 
 -- the ranges of a fragmenter that `new` gave and steps changed
 pub record Sound (f : Fragmenter) : Type 0 where

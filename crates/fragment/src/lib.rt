@@ -7,7 +7,7 @@ ghost use Prim.Native.Nat.{_+_, _-_, _≤_, _<_, _^_, min};
 ghost use lib.ListN.{length};
 ghost use Rattle.octets.specs.Bytes.{over, part};
 ghost use Rattle.mctp.specs.Header.{headerBytes, lead};
-ghost use Rattle.fragment.specs.Step.{newOf, advancedBy, headerFor, Writable, stillOf, emitOf, planOf, writtenBy, stepOf};
+ghost use Rattle.fragment.specs.Step.{newOf, advancedBy, headerFor, Writable, emitOf, planOf, nextBy, outputBy, writtenBy, stepOf};
 use mctp::Cookie;
 use mctp::Eid;
 use mctp::Error;
@@ -47,16 +47,24 @@ pub struct Fragmented {
     pub output: SendOutput,
 }
 
-// A step before it writes: what it answers, and what goes into the packet buffer, if anything.
-pub struct Plan {
+// A packet cut off the payload, before it is written.
+pub struct Cut {
+    // the fragmenter after it
     pub next: Fragmenter,
-    pub output: SendOutput,
-    pub writes: bool,
     pub header: Header,
+    // the type byte, which a first packet has after its header
     pub kind: u8,
     // where in the payload the body starts, and its length
     pub from: usize,
     pub len: usize,
+    // the packet's length
+    pub total: usize,
+}
+
+// A step before it writes: it writes nothing, and answers this; or it writes a packet.
+pub enum Plan {
+    Still(SendOutput),
+    Emits(Cut),
 }
 
 pub enum Started {
@@ -100,16 +108,38 @@ fn write_plan(plan: Plan, payload: &[u8], out: &mut [u8])
     requires { ⌜ Writable plan (length (now payload)) (length (now out)) ⌝ }
     ensures { λ _. ⌜ now (out .exit) ≡ over 0 (writtenBy plan (now (payload .entry))) (now (out .entry)) ⌝ }
 {
-    if plan.writes {
-        let h = plan.header;
-        let from = plan.from;
-        let n = plan.len;
-        if h.som {
-            write_first(out, h, plan.kind, payload, from, n);
-            return;
-        }
-        write_later(out, h, payload, from, n);
+    let Plan::Emits(c) = plan else {
         return;
+    };
+    let h = c.header;
+    let from = c.from;
+    let n = c.len;
+    if h.som {
+        write_first(out, h, c.kind, payload, from, n);
+        return;
+    }
+    write_later(out, h, payload, from, n);
+}
+
+impl Plan {
+    // The fragmenter after the step: where nothing is written it stays as it was.
+    pub fn next(self, f: Fragmenter) -> Fragmenter
+        ensures { λ r. ⌜ r ≡ nextBy f self ⌝ }
+    {
+        match self {
+            Plan::Still(_) => f,
+            Plan::Emits(c) => c.next,
+        }
+    }
+
+    // What the step answers.
+    pub fn output(self) -> SendOutput
+        ensures { λ r. ⌜ r ≡ outputBy self ⌝ }
+    {
+        match self {
+            Plan::Still(output) => output,
+            Plan::Emits(c) => SendOutput::Packet(c.total),
+        }
     }
 }
 
@@ -198,22 +228,6 @@ impl Fragmenter {
         }
     }
 
-    // An answer that writes nothing and moves nothing.
-    fn still(self, output: SendOutput) -> Plan
-        ensures { λ r. ⌜ r ≡ stillOf self output ⌝ }
-    {
-        let header = self.header(false);
-        Plan {
-            next: self,
-            output: output,
-            writes: false,
-            header: header,
-            kind: 0,
-            from: 0,
-            len: 0,
-        }
-    }
-
     // The fragmenter after a packet that took n bytes.
     fn advanced(self, n: usize, eom: bool) -> Fragmenter
         requires { ⌜ self .«payload_used» + n < 2 ^ 64 ⌝ }
@@ -241,7 +255,7 @@ impl Fragmenter {
     }
 
     // One packet: what is left of the payload, as far as it fits.
-    fn emit(self, size: usize, room: usize) -> Plan
+    fn emit(self, size: usize, room: usize) -> Cut
         requires { ⌜ (lead (self .first) ≤ room) × (self .«payload_used» ≤ size) ⌝ }
         ensures { λ r. ⌜ r ≡ emitOf self size room ⌝ }
     {
@@ -252,14 +266,13 @@ impl Fragmenter {
         let header = self.header(eom);
         let next = self.advanced(n, eom);
         let kind = mctp::encode_type_ic(self.typ, self.ic);
-        Plan {
+        Cut {
             next: next,
-            output: SendOutput::Packet(start + n),
-            writes: true,
             header: header,
             kind: kind,
             from: used,
             len: n,
+            total: start + n,
         }
     }
 
@@ -271,24 +284,24 @@ impl Fragmenter {
         let tag = self.tag;
         let cookie = self.cookie;
         if self.done {
-            return self.still(SendOutput::Complete {
+            return Plan::Still(SendOutput::Complete {
                 tag: tag,
                 cookie: cookie,
             });
         }
         if room < mctp::body_start(self.first) {
-            return self.still(SendOutput::Error {
+            return Plan::Still(SendOutput::Error {
                 err: Error::NoSpace,
                 cookie: cookie,
             });
         }
         if size < self.payload_used {
-            return self.still(SendOutput::Error {
+            return Plan::Still(SendOutput::Error {
                 err: Error::InvalidInput,
                 cookie: cookie,
             });
         }
-        self.emit(size, room)
+        Plan::Emits(self.emit(size, room))
     }
 
     // Writes what one step writes: its packet over the front of the buffer. A refused or finished step writes nothing.
@@ -305,8 +318,8 @@ impl Fragmenter {
         ensures bytes { λ _. ⌜ now (out .exit) ≡ over 0 (stepOf self (now (payload .entry)) (length (now (out .entry))) .bytes) (now (out .entry)) ⌝ }
     {
         let plan = self.plan(payload.len(), out.len());
-        let next = plan.next;
-        let output = plan.output;
+        let next = plan.next(self);
+        let output = plan.output();
         write_plan(plan, payload, out);
         Fragmented {
             next: next,

@@ -16,7 +16,6 @@ use Rattle.mctp.specs.declared.Error.{Error}
 use Rattle.mctp.specs.declared.Error.the-variants.{InvalidInput, NoSpace}
 use Rattle.mctp.specs.declared.Key.{Key}
 use Rattle.mctp.specs.declared.Tag.{Tag}
-use Rattle.mctp.specs.declared.Tag.the-variants.{Owned, Unowned}
 use Rattle.mctp.specs.Terms.{keyUnder}
 use Rattle.mctp.specs.Answer.{answerNo, rowAfter}
 use Rattle.mctp.specs.Header.{lead}
@@ -36,8 +35,8 @@ use Rattle.sending.specs.declared.UnderTag.{UnderTag}
 use Rattle.sending.specs.declared.UnderTag.the-variants.{Under, Refused as Untagged}
 use Rattle.sending.specs.declared.Send.{Send}
 use Rattle.sending.specs.declared.SendTag.{SendTag}
-use Rattle.sending.specs.declared.SendTag.the-variants.{Fresh, Given}
-use Rattle.sending.specs.Sends.{Sent, ownedTag, givenTag, tagFor, sendAs, sendTagged, startSendOf}
+use Rattle.sending.specs.declared.SendTag.the-variants.{Fresh, Owned, Unowned}
+use Rattle.sending.specs.Sends.{Sent, ownedTag, tagFor, sendAs, sendTagged, startSendOf}
 use Rattle.promises.specs.Calls.{startSend}
 use Rattle.rows.specs.Words.{advancedRow, fragmenterOf, sendOf}
 use Rattle.rows.proofs.Laws.{words-back, row-moves}
@@ -67,10 +66,10 @@ module _ (q : Send) (f : Fragmenter) where
 
   -- a flow changes no own EID
   tag-own : (tag : SendTag) (st : Stack) → tagFor (q .dest) tag (q .expires) (q .cookie) st .stack .head .«own_eid» ≡ st .head .«own_eid»
-  unfolding tagFor givenTag ownedTag
+  unfolding tagFor ownedTag
   tag-own Fresh st = refl
-  tag-own (Given (Owned tag)) st = refl
-  tag-own (Given (Unowned tag)) st = refl
+  tag-own (Owned tag) st = refl
+  tag-own (Unowned tag) st = refl
 
   tagged-new : (st : Stack) → sendTagged q (tagFor (q .dest) (q .tag) (q .expires) (q .cookie) st) .said ≡ Starts f → New q (st .head .«own_eid») f
   tagged-new st e =

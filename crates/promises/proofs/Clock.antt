@@ -6,7 +6,6 @@ use mathlib.Core.List.{List}
 use Rattle.octets.specs.Pick.{pick-cases}
 use Rattle.mctp.specs.declared.Eid.{Eid}
 use Rattle.mctp.specs.declared.TagValue.{TagValue}
-use Rattle.mctp.specs.declared.Tag.the-variants.{Owned, Unowned}
 use Rattle.mctp.specs.declared.Header.{Header}
 use Rattle.mctp.specs.declared.HeaderRead.{HeaderRead}
 use Rattle.mctp.specs.declared.HeaderRead.the-variants.{Good, Bad}
@@ -30,9 +29,9 @@ use Rattle.sending.specs.declared.Send.{Send}
 use Rattle.sending.specs.declared.UnderTag.{UnderTag}
 use Rattle.sending.specs.declared.UnderTag.the-variants.{Under, Refused as Untagged}
 use Rattle.sending.specs.declared.SendTag.{SendTag}
-use Rattle.sending.specs.declared.SendTag.the-variants.{Fresh, Given}
+use Rattle.sending.specs.declared.SendTag.the-variants.{Fresh, Owned, Unowned}
 use Rattle.receiving.specs.Receive.{Receipt, land, countedOpening, gateOf, receiveAt, receiveBy, receiveOf}
-use Rattle.sending.specs.Sends.{Sent, ownedTag, givenTag, tagFor, sendAs, sendTagged, startSendOf}
+use Rattle.sending.specs.Sends.{Sent, ownedTag, tagFor, sendAs, sendTagged, startSendOf}
 
 pub next-clock : (s : EventStamp) → next s .clock ≡ s .clock
 unfolding next
@@ -103,10 +102,10 @@ module _ (q : Send) where
   owned-same wish st = record { slots = refl; clock = flow-clock (q .dest) (q .expires) (q .cookie) wish (tableOf st) }
 
   tag-same : (tag : SendTag) (st : Stack) → Same st (tagFor (q .dest) tag (q .expires) (q .cookie) st .stack)
-  unfolding tagFor givenTag
+  unfolding tagFor
   tag-same Fresh st = owned-same AnyTag st
-  tag-same (Given (Owned tag)) st = owned-same (Fixed tag) st
-  tag-same (Given (Unowned tag)) st = same st
+  tag-same (Owned tag) st = owned-same (Fixed tag) st
+  tag-same (Unowned tag) st = same st
 
   tagged-same : (st : Stack) → Same st (sendTagged q (tagFor (q .dest) (q .tag) (q .expires) (q .cookie) st) .stack)
   tagged-same st =

@@ -35,7 +35,7 @@ use Rattle.receiving.specs.declared.Received.the-variants.{Refused}
 use Rattle.slot.specs.Handle.{nextIssue}
 use Rattle.receiving.specs.Conclude.{receivedAs}
 use Rattle.receiving.specs.Receive.{land, receiveAt, receiveBy, receiveOf}
-use Rattle.sending.specs.Sends.{ownedTag, givenTag, tagFor, sendAs, startSendOf}
+use Rattle.sending.specs.Sends.{ownedTag, tagFor, sendAs, startSendOf}
 use Rattle.updating.specs.Update.{Update, updatedAs, checked, updateOf}
 use Rattle.handles.specs.declared.Done.{Done}
 use Rattle.handles.specs.declared.Deferred.{Deferred}
@@ -230,5 +230,5 @@ refusals-met = (refl, (refl, (refl, (refl, (refl, (refl, (refl, (refl, (refl, (r
 
 -- by each of its ways
 pub ways-met : Met ways
-unfolding asks opens flatten pick find over headerOf sameKey sameBool next bitsOf freeTagOf isFlow newFlow insertFlow withTag freshFlow setFlow fixedFlow slotFor isLocal opening gate gateEmpty gateReply enter append newOf nextIssue land receiveAt receiveBy receiveOf sendAs ownedTag givenTag tagFor startSendOf step
+unfolding asks opens flatten pick find over headerOf sameKey sameBool next bitsOf freeTagOf isFlow newFlow insertFlow withTag freshFlow setFlow fixedFlow slotFor isLocal opening gate gateEmpty gateReply enter append newOf nextIssue land receiveAt receiveBy receiveOf sendAs ownedTag tagFor startSendOf step
 ways-met = (refl, (refl, tt))

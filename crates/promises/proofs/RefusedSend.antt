@@ -36,10 +36,10 @@ use Rattle.sending.specs.declared.Send.{Send}
 use Rattle.sending.specs.declared.UnderTag.{UnderTag}
 use Rattle.sending.specs.declared.UnderTag.the-variants.{Under, Refused as Untagged}
 use Rattle.sending.specs.declared.SendTag.{SendTag}
-use Rattle.sending.specs.declared.SendTag.the-variants.{Fresh, Given}
+use Rattle.sending.specs.declared.SendTag.the-variants.{Fresh, Owned as Ours, Unowned as Theirs}
 use Rattle.sending.specs.declared.SendMtu.{SendMtu}
 use Rattle.sending.specs.declared.SendMtu.the-variants.{AtMost}
-use Rattle.sending.specs.Sends.{Sent, badTag, mtuOf, underGranted, sendUnder, ownedTag, givenTag, tagFor, sendAs, sendTagged, startSendOf}
+use Rattle.sending.specs.Sends.{Sent, badTag, mtuOf, underGranted, sendUnder, ownedTag, tagFor, sendAs, sendTagged, startSendOf}
 use Rattle.estack.specs.Basics.{freeTagsOf}
 use Rattle.promises.specs.Calls.{World, startSend, step, performed}
 use Rattle.promises.specs.Refusals.{Among, firstOf, fullNo, flowNo, mtuNo, sendNo, Unsent, invalid, expiring, none-free, table-full, bad-mtu, withMtu, tagAfter, untagged}
@@ -175,7 +175,7 @@ module _ (q : Send) (st : Stack) where
           )
 
       -- a fixed tag
-      fixes : (tag : TagValue) → q .tag ≡ Given (Owned tag) → tag .0 ≤ 7 → Flows (fixedFlow (q .dest) tag (q .expires) (q .cookie) (tableOf st))
+      fixes : (tag : TagValue) → q .tag ≡ Ours tag → tag .0 ≤ 7 → Flows (fixedFlow (q .dest) tag (q .expires) (q .cookie) (tableOf st))
       unfolding fixedFlow Flows sendAs Fate
       fixes tag e b =
           let g = ap (λ (t : SendTag). flowNo (q .dest) t st) e in
@@ -187,16 +187,16 @@ module _ (q : Send) (st : Stack) where
           )))
           (λ s. inserts tag (st .head .«next_tag») b (ap (λ (t : SendTag). tagAfter t (st .head .«next_tag»)) e) (λ f. no-fresh (sym e ∙ f)) (g ∙ pick-false _ _ _ s))
         where
-          no-fresh : {A : Type 0} → Given (Owned tag) ≡ Fresh → A
+          no-fresh : {A : Type 0} → Ours tag ≡ Fresh → A
           no-fresh f = let z : _≡_ {A = ℕ} 0 1 = cc in absurd (omega arith)
 
       tags : (tag : SendTag) → q .tag ≡ tag → badTag tag ≡ false → Fate k (sendTagged q (tagFor (q .dest) tag (q .expires) (q .cookie) st))
-      unfolding tagFor givenTag ownedTag setFlow freshFlow Flows sendAs
+      unfolding tagFor ownedTag setFlow freshFlow Flows sendAs
       tags Fresh e g =
           searches e (freeTagOf (usedTags (q .dest) (st .flows)) (turned (tableOf st) .counter)) (searched (usedTags (q .dest) (st .flows)) (turned (tableOf st) .counter))
-      tags (Given (Owned tag)) e g =
+      tags (Ours tag) e g =
           pick-cases Flows (λ y. absurd (no-both (ltb 7 (tag .0)) y g)) (λ _. fixes tag e (ltb-false 7 (tag .0) g))
-      tags (Given (Unowned tag)) e g =
+      tags (Theirs tag) e g =
           under (Unowned tag) st (ltb-false 7 (tag .0) g) refl (is ∙ first-none flow size (ap (λ (t : SendTag). flowNo (q .dest) t st) e))
 
   pub started-says : Says (sendNo q st) (Unsends q st (startSendOf q st .stack)) (startedAs (startSendOf q st .said))

@@ -18,7 +18,6 @@ use Rattle.mctp.specs.declared.EidRead.{EidRead}
 use Rattle.mctp.specs.declared.EidRead.the-variants.{Normal, Refused as NotNormal}
 use Rattle.mctp.specs.declared.TagValue.{TagValue}
 use Rattle.mctp.specs.declared.Tag.{Tag}
-use Rattle.mctp.specs.declared.Tag.the-variants.{Owned, Unowned}
 use Rattle.mctp.specs.declared.Key.{Key}
 use Rattle.mctp.specs.declared.Header.{Header}
 use Rattle.mctp.specs.declared.HeaderRead.{HeaderRead}
@@ -51,11 +50,11 @@ use Rattle.sending.specs.declared.Send.{Send}
 use Rattle.sending.specs.declared.UnderTag.{UnderTag}
 use Rattle.sending.specs.declared.UnderTag.the-variants.{Under, Refused as Untagged}
 use Rattle.sending.specs.declared.SendTag.{SendTag}
-use Rattle.sending.specs.declared.SendTag.the-variants.{Fresh, Given}
+use Rattle.sending.specs.declared.SendTag.the-variants.{Fresh, Owned, Unowned}
 use Rattle.handles.specs.declared.Deferred.the-variants.{Found}
 use Rattle.handles.specs.Handles as handles
 use Rattle.handles.specs.Handles.{Lookup, isGood, handled, finishOf, returnOf, takeOf, bySourceOf}
-use Rattle.sending.specs.Sends.{Sent, ownedTag, givenTag, tagFor, sendAs, sendTagged, startSendOf}
+use Rattle.sending.specs.Sends.{Sent, ownedTag, tagFor, sendAs, sendTagged, startSendOf}
 use Rattle.updating.specs.Update.{Update, checked, updateOf}
 use Rattle.estack.specs.Basics.{eidSet, cancelOf}
 use Rattle.promises.specs.Calls.{Call, receive, elsewhere, update, startSend, cancelFlow, getDeferred, getDeferredByCookie, fetchMessage, finishedReceive, returnHandle, setCookie, setEid, eid, isLocalDest, freeTags, World, step, steps, receipt}
@@ -186,10 +185,10 @@ module _ (q : Send) where
   as-count (Untagged err) st = refl
 
   tag-count : (tag : SendTag) (st : Stack) → tagFor (q .dest) tag (q .expires) (q .cookie) st .stack .head .issue ≡ st .head .issue
-  unfolding tagFor givenTag ownedTag
+  unfolding tagFor ownedTag
   tag-count Fresh st = refl
-  tag-count (Given (Owned tag)) st = refl
-  tag-count (Given (Unowned tag)) st = refl
+  tag-count (Owned tag) st = refl
+  tag-count (Unowned tag) st = refl
 
   tagged-count : (st : Stack) → sendTagged q (tagFor (q .dest) (q .tag) (q .expires) (q .cookie) st) .stack .head .issue ≡ st .head .issue
   tagged-count st =

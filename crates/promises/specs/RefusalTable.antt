@@ -5,12 +5,11 @@ use mathlib.Core.Path.{_≡_}
 use mathlib.Core.Bool.{true, false}
 use mathlib.Core.List.{List, [], _∷_, map, flatten}
 use lib.ListN.{replicate}
-use Rattle.mctp.specs.declared.Tag.the-variants.{Owned}
 use Rattle.mctp.specs.declared.Cookie.the-variants.{Absent}
 use Rattle.mctp.specs.Answer.{Answer, refuses}
 use Rattle.slot.specs.declared.ReceiveHandle.{ReceiveHandle}
 use Rattle.sending.specs.declared.Send.{Send}
-use Rattle.sending.specs.declared.SendTag.the-variants.{Fresh, Given}
+use Rattle.sending.specs.declared.SendTag.the-variants.{Fresh, Owned}
 use Rattle.sending.specs.declared.SendMtu.the-variants.{Own, AtMost}
 use Rattle.promises.specs.Calls.{Call, receive, elsewhere, update, startSend, cancelFlow, fetchMessage, finishedReceive, returnHandle, setCookie, setEid, World, step, performed}
 use Rattle.promises.specs.Figures.{bay, question, whole}
@@ -77,7 +76,7 @@ abbrev pub fixedQuestion : ℕ → ℕ → Send
 fixedQuestion peer tag = record {
   dest = record { 0 = peer };
   typ = record { 0 = 1 };
-  tag = Given (Owned (record { 0 = tag }));
+  tag = Owned (record { 0 = tag });
   expires = true;
   ic = record { 0 = false };
   mtu = Own;

@@ -11,7 +11,6 @@ use Rattle.octets.specs.Pick.{pick}
 use Rattle.octets.specs.Find.{find}
 use Rattle.mctp.specs.declared.Eid.{Eid}
 use Rattle.mctp.specs.declared.TagValue.{TagValue}
-use Rattle.mctp.specs.declared.Tag.the-variants.{Owned, Unowned}
 use Rattle.mctp.specs.declared.HeaderRead.{HeaderRead}
 use Rattle.mctp.specs.declared.HeaderRead.the-variants.{Good, Bad}
 use Rattle.mctp.specs.Terms.{cookieNo, cookieValue}
@@ -28,7 +27,7 @@ use Rattle.state.specs.Head.{withNextTag, withNow}
 use Rattle.state.specs.Stack.{Stack, slotAt, withHead, withSlot, ticked}
 use Rattle.sending.specs.declared.Send.{Send}
 use Rattle.sending.specs.declared.SendTag.{SendTag}
-use Rattle.sending.specs.declared.SendTag.the-variants.{Fresh, Given}
+use Rattle.sending.specs.declared.SendTag.the-variants.{Fresh, Owned, Unowned}
 use Rattle.sending.specs.declared.SendMtu.{SendMtu}
 use Rattle.sending.specs.declared.SendMtu.the-variants.{AtMost}
 use Rattle.sending.specs.Sends.{badTag, mtuOf, startSendOf}
@@ -154,7 +153,8 @@ withMtu mtu q = record { dest = q .dest; typ = q .typ; tag = q .tag; expires = q
 -- a fresh tag turns the tag counter up by 1 modulo 8, any other leaves it
 abbrev pub tagAfter : SendTag → ℕ → ℕ
 tagAfter Fresh n = (n % 8 + 1) % 8
-tagAfter (Given tag) n = n
+tagAfter (Owned tag) n = n
+tagAfter (Unowned tag) n = n
 
 -- the head after a send that got no tag: the tag counter, and the event counter where an event counts
 abbrev pub untagged : SendTag → Bool → Head → Head
@@ -167,9 +167,9 @@ fullNo st = pick (ltb (find isFree (st .flows)) (length (st .flows))) 0 4
 -- for an owned tag, why there is no flow: none is free, or the table is full: 4; it stands with an expiry: 3
 abbrev pub flowNo : Eid → SendTag → Stack → ℕ
 flowNo peer Fresh st = pick (ltb 0 (freeTagsOf peer st)) (fullNo st) 4
-flowNo peer (Given (Owned tag)) st =
+flowNo peer (Owned tag) st =
     pick (standing peer tag (st .flows)) (pick (lasts (getD (st .flows) (flowPlace peer tag (st .flows)) noFlow)) 0 3) (fullNo st)
-flowNo peer (Given (Unowned tag)) st = 0
+flowNo peer (Unowned tag) st = 0
 
 -- an MTU outside 5 to 255
 abbrev pub mtuNo : ℕ → ℕ
@@ -185,7 +185,7 @@ pub data Unsent (q : Send) (st : Stack) (n : ℕ) (st′ : Stack) : Type 0 where
   -- type above 127 or tag above 7: all as it was
   invalid : (127 < q .typ .0) ⊎ (badTag (q .tag) ≡ true) → n ≡ 1 → st′ ≡ st → Unsent q st n st′
   -- a fixed owned tag that stands with an expiry: all as it was
-  expiring : (tag : TagValue) → q .tag ≡ Given (Owned tag) → standing (q .dest) tag (st .flows) ≡ true
+  expiring : (tag : TagValue) → q .tag ≡ Owned tag → standing (q .dest) tag (st .flows) ≡ true
       → lasts (getD (st .flows) (flowPlace (q .dest) tag (st .flows)) noFlow) ≡ false → n ≡ 3 → st′ ≡ st → Unsent q st n st′
   -- a fresh tag, and none is free for the peer: the tag counter has turned, no event counts
   none-free : q .tag ≡ Fresh → freeTagsOf (q .dest) st ≡ 0 → n ≡ 4 → st′ ≡ withHead (untagged (q .tag) false (st .head)) st → Unsent q st n st′

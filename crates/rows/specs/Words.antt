@@ -15,7 +15,7 @@ use Rattle.mctp.specs.Answer.{flagWord}
 use Rattle.fragment.specs.declared.Fragmenter.{Fragmenter}
 use Rattle.sending.specs.declared.Send.{Send}
 use Rattle.sending.specs.declared.SendTag.{SendTag}
-use Rattle.sending.specs.declared.SendTag.the-variants.{Fresh, Given as This}
+use Rattle.sending.specs.declared.SendTag.the-variants.{Fresh, Owned, Unowned}
 use Rattle.sending.specs.declared.SendMtu.{SendMtu}
 use Rattle.sending.specs.declared.SendMtu.the-variants.{Own, AtMost}
 
@@ -46,7 +46,7 @@ goodSend w =
     (pick (ltb 255 (word 1 w)) false (pick (ltb 2 (word 2 w)) false (pick (eqb (word 2 w) 0) true (ltb (word 3 w) 256))))
 
 unfoldable pub sendTagFrom : ℕ → ℕ → SendTag
-sendTagFrom kind t = pick (eqb kind 0) Fresh (This (tagFrom (eqb kind 1) t))
+sendTagFrom kind t = pick (eqb kind 0) Fresh (pick (eqb kind 1) (Owned (record { 0 = t })) (Unowned (record { 0 = t })))
 
 unfoldable pub sendMtuFrom : Bool → ℕ → SendMtu
 sendMtuFrom has mtu = pick has (AtMost mtu) Own

@@ -103,15 +103,15 @@ pub fn put_received(handle: &mut [u64; 2], received: Received) -> u8
 }
 
 // The handle found, or issue 0.
-pub fn put_deferred(handle: &mut [u64; 2], d: Deferred)
-    ensures { λ _. ⌜ now (handle .exit) ≡ rowAfter 2 (deferredAs d) (now (handle .entry)) ⌝ }
+pub fn put_deferred(row: &mut [u64; 2], d: Deferred)
+    ensures { λ _. ⌜ now (row .exit) ≡ rowAfter 2 (deferredAs d) (now (row .entry)) ⌝ }
 {
     match d {
         Deferred::Found(h) => {
-            *handle = handle_words(h);
+            *row = handle_words(h);
         }
         Deferred::Nothing => {
-            *handle = [0, 0];
+            *row = [0, 0];
         }
     }
 }

@@ -101,7 +101,10 @@ fn send_tag_from(kind: u64, tag: u8) -> SendTag
     if kind == 0 {
         return SendTag::Fresh;
     }
-    SendTag::Given(tag_from(kind == 1, tag))
+    if kind == 1 {
+        return SendTag::Owned(TagValue(tag));
+    }
+    SendTag::Unowned(TagValue(tag))
 }
 
 fn send_mtu_from(has: bool, mtu: u64) -> SendMtu

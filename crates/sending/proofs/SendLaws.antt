@@ -1,16 +1,12 @@
 -- A send by its parts: what the tests leave, the tag, and the sequence.
 use Prim.Native.Nat.{ℕ, _≤_}
 use mathlib.Core.Path.{_≡_, refl}
-use mathlib.Core.Bool.{Bool, false}
+use mathlib.Core.Bool.{false}
 use mathlib.Core.List.{List}
 use borrow.Author.Tests.{le-ltb}
 use Rattle.octets.specs.Pick.{pick}
 use Rattle.mctp.specs.declared.Error.{Error}
-use Rattle.mctp.specs.declared.Cookie.{Cookie}
-use Rattle.mctp.specs.declared.Eid.{Eid}
-use Rattle.mctp.specs.declared.TagValue.{TagValue}
 use Rattle.mctp.specs.declared.Tag.{Tag}
-use Rattle.mctp.specs.declared.Tag.the-variants.{Unowned}
 use Rattle.fragment.specs.declared.Started.{Started}
 use Rattle.fragment.specs.declared.Started.the-variants.{Refused}
 use Rattle.state.specs.declared.Sizes.{Sizes}
@@ -18,18 +14,13 @@ use Rattle.state.specs.Stack.{Stack, Becomes, stackOf}
 use Rattle.state.proofs.Steps.{Met, then-says}
 use Rattle.sending.specs.declared.UnderTag.the-variants.{Under, Refused as Untagged}
 use Rattle.sending.specs.declared.Send.{Send}
-use Rattle.sending.specs.Sends.{Tagged, badTag, sendUnder, sendAs, sendTagged, givenTag, tagFor, startSendOf}
+use Rattle.sending.specs.Sends.{Tagged, badTag, sendUnder, sendAs, sendTagged, tagFor, startSendOf}
 
 -- type and tag are good: the tag decides
 start-as : (q : Send) (st : Stack) → q .typ .0 ≤ 127 → badTag (q .tag) ≡ false
     → startSendOf q st ≡ sendTagged q (tagFor (q .dest) (q .tag) (q .expires) (q .cookie) st)
 unfolding startSendOf pick
 start-as q st h b = rw (le-ltb 127 (q .typ .0) h, b)
-
-pub given-unowned : (dest : Eid) (t : TagValue) (tag : Tag) (expires : Bool) (cookie : Cookie) (st : Stack) → tag ≡ Unowned t
-    → givenTag dest tag expires cookie st ≡ record { stack = st; said = Under tag }
-unfolding givenTag
-given-unowned dest t tag expires cookie st e = rw e
 
 -- what comes of the tag that there is, or is not
 module _ (z : Sizes) (b : List ℕ) (q : Send) (h : q .typ .0 ≤ 127) (good : badTag (q .tag) ≡ false) where

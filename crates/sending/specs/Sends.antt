@@ -10,7 +10,6 @@ use Rattle.mctp.specs.declared.Eid.{Eid}
 use Rattle.mctp.specs.declared.Tag.{Tag}
 use Rattle.mctp.specs.declared.Tag.the-variants.{Owned, Unowned}
 use Rattle.mctp.specs.declared.Error.the-variants.{InvalidInput}
-use Rattle.mctp.specs.Terms.{tagOf}
 use Rattle.flows.specs.declared.Wish.{Wish}
 use Rattle.flows.specs.declared.Wish.the-variants.{Fresh as AnyTag, Fixed}
 use Rattle.flows.specs.declared.Granted.{Granted}
@@ -26,7 +25,7 @@ use Rattle.sending.specs.declared.UnderTag.{UnderTag}
 use Rattle.sending.specs.declared.UnderTag.the-variants.{Under, Refused as Untagged}
 use Rattle.sending.specs.declared.Send.{Send}
 use Rattle.sending.specs.declared.SendTag.{SendTag}
-use Rattle.sending.specs.declared.SendTag.the-variants.{Fresh, Given}
+use Rattle.sending.specs.declared.SendTag.the-variants.{Fresh, Owned as Ours, Unowned as Theirs}
 use Rattle.sending.specs.declared.SendMtu.{SendMtu}
 use Rattle.sending.specs.declared.SendMtu.the-variants.{Own, AtMost}
 
@@ -40,7 +39,8 @@ unsent st said = record { stack = st; said = said }
 -- a tag above 7
 abbrev pub badTag : SendTag → Bool
 badTag Fresh = false
-badTag (Given tag) = ltb 7 (tagOf tag .0)
+badTag (Ours tag) = ltb 7 (tag .0)
+badTag (Theirs tag) = ltb 7 (tag .0)
 
 -- the smaller of the stack's MTU and the one given, if one is
 abbrev pub mtuOf : SendMtu → ℕ → ℕ
@@ -70,14 +70,11 @@ ownedTag dest wish expires cookie st = record {
   said = underGranted (setFlow dest wish expires cookie (tableOf st) .granted);
 }
 
--- the other side's tag needs no flow
-unfoldable pub givenTag : Eid → Tag → Bool → Cookie → Stack → Tagged
-givenTag dest (Owned tag) expires cookie st = ownedTag dest (Fixed tag) expires cookie st
-givenTag dest (Unowned tag) expires cookie st = record { stack = st; said = Under (Unowned tag) }
-
+-- the tag that a send asks for; the other side's needs no flow
 unfoldable pub tagFor : Eid → SendTag → Bool → Cookie → Stack → Tagged
 tagFor dest Fresh expires cookie st = ownedTag dest AnyTag expires cookie st
-tagFor dest (Given tag) expires cookie st = givenTag dest tag expires cookie st
+tagFor dest (Ours tag) expires cookie st = ownedTag dest (Fixed tag) expires cookie st
+tagFor dest (Theirs tag) expires cookie st = record { stack = st; said = Under (Unowned tag) }
 
 -- under the tag that there is; a refusal of the flow ends the send
 unfoldable pub sendAs : Send → UnderTag → Stack → Sent

@@ -4,7 +4,7 @@
 ghost use mathlib.Core.Path.{_≡_};
 ghost use Prim.Native.Nat.{min};
 ghost use Rattle.state.specs.Stack.{Kept, Becomes, stackOf};
-ghost use Rattle.sending.specs.Sends.{badTag, mtuOf, sendUnder, ownedTag, givenTag, tagFor, startSendOf};
+ghost use Rattle.sending.specs.Sends.{badTag, mtuOf, sendUnder, ownedTag, tagFor, startSendOf};
 use flows::Granted;
 use flows::Wish;
 use fragment::Fragmenter;
@@ -15,12 +15,14 @@ use mctp::Error;
 use mctp::MsgIC;
 use mctp::MsgType;
 use mctp::Tag;
+use mctp::TagValue;
 use state::Sizes;
 
-// The tag that a message carries: a fresh one of our own, or this one.
+// The tag that a message carries: a fresh one of our own, this one of our own, or this one of the other side's.
 pub enum SendTag {
     Fresh,
-    Given(Tag),
+    Owned(TagValue),
+    Unowned(TagValue),
 }
 
 // The most that a packet of this message may be: as the stack has it, or also at most this.
@@ -59,7 +61,8 @@ fn is_bad_tag(tag: SendTag) -> bool
 {
     match tag {
         SendTag::Fresh => false,
-        SendTag::Given(t) => 7 < t.tag().0,
+        SendTag::Owned(t) => 7 < t.0,
+        SendTag::Unowned(t) => 7 < t.0,
     }
 }
 
@@ -95,24 +98,7 @@ fn owned_tag(
     }
 }
 
-fn given_tag(
-    state: &mut [u8],
-    sizes: Sizes,
-    dest: Eid,
-    tag: Tag,
-    expires: bool,
-    cookie: Cookie,
-) -> UnderTag
-    requires { ⌜ Kept sizes (now state) ⌝ }
-    ensures { λ r. ⌜ (r ≡ givenTag dest tag expires cookie (stackOf sizes (now (state .entry))) .said) × Becomes sizes (now (state .entry)) (now (state .exit)) (givenTag dest tag expires cookie (stackOf sizes (now (state .entry))) .stack) ⌝ }
-{
-    match tag {
-        Tag::Owned(t) => owned_tag(state, sizes, dest, Wish::Fixed(t), expires, cookie),
-        Tag::Unowned(_) => UnderTag::Under(tag),
-    }
-}
-
-// The tag that a send asks for.
+// The tag that a send asks for. The other side's tag needs no flow.
 fn tag_for(
     state: &mut [u8],
     sizes: Sizes,
@@ -126,7 +112,8 @@ fn tag_for(
 {
     match tag {
         SendTag::Fresh => owned_tag(state, sizes, dest, Wish::Fresh, expires, cookie),
-        SendTag::Given(t) => given_tag(state, sizes, dest, t, expires, cookie),
+        SendTag::Owned(t) => owned_tag(state, sizes, dest, Wish::Fixed(t), expires, cookie),
+        SendTag::Unowned(t) => UnderTag::Under(Tag::Unowned(t)),
     }
 }
 

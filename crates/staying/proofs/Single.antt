@@ -13,7 +13,6 @@ use Rattle.mctp.specs.declared.EidRead.{EidRead}
 use Rattle.mctp.specs.declared.EidRead.the-variants.{Normal, Refused as NotNormal}
 use Rattle.mctp.specs.declared.TagValue.{TagValue}
 use Rattle.mctp.specs.declared.Tag.{Tag}
-use Rattle.mctp.specs.declared.Tag.the-variants.{Owned, Unowned}
 use Rattle.mctp.specs.declared.Header.{Header}
 use Rattle.mctp.specs.declared.HeaderRead.{HeaderRead}
 use Rattle.mctp.specs.declared.HeaderRead.the-variants.{Good, Bad}
@@ -54,8 +53,8 @@ use Rattle.sending.specs.declared.Send.{Send}
 use Rattle.sending.specs.declared.UnderTag.{UnderTag}
 use Rattle.sending.specs.declared.UnderTag.the-variants.{Under, Refused as Untagged}
 use Rattle.sending.specs.declared.SendTag.{SendTag}
-use Rattle.sending.specs.declared.SendTag.the-variants.{Fresh, Given}
-use Rattle.sending.specs.Sends.{Sent, ownedTag, givenTag, tagFor, sendAs, sendTagged, startSendOf}
+use Rattle.sending.specs.declared.SendTag.the-variants.{Fresh, Owned, Unowned}
+use Rattle.sending.specs.Sends.{Sent, ownedTag, tagFor, sendAs, sendTagged, startSendOf}
 use Rattle.updating.specs.Update.{Update, checked, updateOf}
 use Rattle.estack.specs.Basics.{freshStack, eidSet, cancelOf}
 use Rattle.promises.specs.Calls.{Call, receive, elsewhere, update, startSend, cancelFlow, getDeferred, getDeferredByCookie, fetchMessage, finishedReceive, returnHandle, setCookie, setEid, eid, isLocalDest, freeTags, World, step, steps, receipt, performed}
@@ -124,10 +123,10 @@ module _ (q : Send) where
   owned-unique wish st u = set-flow-unique (q .dest) (q .expires) (q .cookie) (tableOf st) wish u
 
   tag-unique : (tag : SendTag) (st : Stack) → Unique (st .flows) → Unique (tagFor (q .dest) tag (q .expires) (q .cookie) st .stack .flows)
-  unfolding tagFor givenTag
+  unfolding tagFor
   tag-unique Fresh st u = owned-unique AnyTag st u
-  tag-unique (Given (Owned tag)) st u = owned-unique (Fixed tag) st u
-  tag-unique (Given (Unowned tag)) st u = u
+  tag-unique (Owned tag) st u = owned-unique (Fixed tag) st u
+  tag-unique (Unowned tag) st u = u
 
   tagged-unique : (st : Stack) → Unique (st .flows) → Unique (sendTagged q (tagFor (q .dest) (q .tag) (q .expires) (q .cookie) st) .stack .flows)
   tagged-unique st u =

@@ -1,4 +1,3 @@
-use borrow.Author.Needs.{needs}
 use Rattle.octets.proofs.Tests.{picks}
 use Rattle.rows.specs.Words.{sendTagFrom}
 use Rattle.rows.proofs.send_tag_from.Statement.{statement}
@@ -8,12 +7,13 @@ returns : tie.Need-returns
 unfolding sendTagFrom
 returns c = search picks
 
-tag-from-requires : tie.Need-tag-from-requires
-tag-from-requires c κs = search needs
-
 returns-2 : tie.Need-returns-2
 unfolding sendTagFrom
-returns-2 c = search (picks, c .tag-from .ensures)
+returns-2 c = search picks
+
+returns-3 : tie.Need-returns-3
+unfolding sendTagFrom
+returns-3 c = search picks
 
 pub send-tag-from-spec : {M : Type 1} → statement M
-send-tag-from-spec = tie.close (tie.spec returns tag-from-requires returns-2)
+send-tag-from-spec = tie.close (tie.spec returns returns-2 returns-3)

@@ -4,35 +4,25 @@ use Rattle.fragment.proofs.Plans.{plan-done, plan-small, plan-short, pl
 use Rattle.fragment.proofs.Fragmenter.plan.Statement.{statement}
 use Rattle.fragment.proofs.Fragmenter.plan.Tie as tie
 
-still-requires : tie.Need-still-requires
-still-requires c κs = search needs
-
 returns : tie.Need-returns
 returns c =
-    let i = c .before in
-    let z = i .before .args in
-    plan-done (z .self) (z .size) (z .room) _ (i .if1 .taken) (c .still .ensures)
+    let z = c .before .args in
+    plan-done (z .self) (z .size) (z .room) (c .if1 .taken)
 
 body-start-requires : tie.Need-body-start-requires
 body-start-requires c κs = search needs
 
-still-requires-2 : tie.Need-still-requires-2
-still-requires-2 c κs = search needs
-
 returns-2 : tie.Need-returns-2
 returns-2 c =
-    let i = c .before .before .before in
+    let i = c .before .before in
     let z = i .before .args in
-    plan-small (z .self) (z .size) (z .room) _ (i .if1 .left) (search needs) (c .still2 .ensures)
-
-still-requires-3 : tie.Need-still-requires-3
-still-requires-3 c κs = search needs
+    plan-small (z .self) (z .size) (z .room) (i .if1 .left) (search needs)
 
 returns-3 : tie.Need-returns-3
 returns-3 c =
-    let i = c .before .before .before .before .before in
+    let i = c .before .before .before .before in
     let z = i .before .args in
-    plan-short (z .self) (z .size) (z .room) _ (i .if1 .left) (search needs) (search needs) (c .still3 .ensures)
+    plan-short (z .self) (z .size) (z .room) (i .if1 .left) (search needs) (search needs)
 
 emit-requires : tie.Need-emit-requires
 emit-requires c κs = search needs
@@ -47,12 +37,9 @@ pub plan-spec : {M : Type 1} → statement M
 plan-spec =
     tie.close
     (tie.spec
-    still-requires
     returns
     body-start-requires
-    still-requires-2
     returns-2
-    still-requires-3
     returns-3
     emit-requires
     returns-4)
