@@ -296,7 +296,7 @@ fn wanted_constants() -> BTreeMap<String, u64> {
             ("EID_ANY", number(mctp, "ANY: Eid = Eid(")),
             ("OK", 0),
             ("TAG_FRESH", number("crates/rows/src/lib.rt", "if kind == ")),
-            ("TAG_OWNED", number("crates/rows/src/lib.rt", "tag_from(kind == ")),
+            ("TAG_OWNED", number("crates/rows/src/lib.rt", "SendTag::Fresh;\n    }\n    if kind == ")),
             ("TAG_UNOWNED", highest_kind()),
         ]
         .map(|(name, number)| (format!("HYPHALOOM_{name}"), number)),
