@@ -1,7 +1,7 @@
 /*
  * Two stacks exchange a request and its reply, and each packet is printed.
  *
- *     cc -std=c99 -Wall -Wextra -Werror -Iinclude examples/talk.c target/native/libboard.a -o talk
+ *     cc -std=c99 -Wall -Wextra -Werror -Iinclude examples/talk.c target/native/libhyphaloom.a -o talk
  */
 #include "hyphaloom.h"
 

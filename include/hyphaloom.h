@@ -27,7 +27,7 @@
  * NUMBERS. In the structs a yes or no is written 1 or 0, and any number but 0 is read as yes.
  *
  * The calls keep nothing between them but the lent state, so any number of stacks live side by side. One stack is used by one
- * thread at a time. The archive to link is for 64-bit machines and needs memset alone.
+ * thread at a time. The archive to link is for 64-bit machines, lowest byte first, and needs memset; on riscv64 memcpy too.
  */
 #ifndef HYPHALOOM_H
 #define HYPHALOOM_H

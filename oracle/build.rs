@@ -10,13 +10,13 @@ fn main() {
     let here = env::var("CARGO_MANIFEST_DIR").unwrap();
     let given = env::var_os("HYPHALOOM_LIB_DIR").map(PathBuf::from);
     let folder = given.unwrap_or_else(|| Path::new(&here).join("../target/native"));
-    for (file, kind) in [("libboard.a", "static"), ("libboard.so", "dylib")] {
+    for (file, kind) in [("libhyphaloom.a", "static"), ("libhyphaloom.so", "dylib")] {
         let library = folder.join(file);
         println!("cargo::rerun-if-changed={}", library.display());
         if library.is_file() {
             println!("cargo::rustc-cfg=board");
             println!("cargo::rustc-link-search=native={}", folder.display());
-            println!("cargo::rustc-link-lib={kind}=board");
+            println!("cargo::rustc-link-lib={kind}=hyphaloom");
             return;
         }
     }

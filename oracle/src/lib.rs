@@ -24,4 +24,4 @@ pub mod rows;
 pub mod tally;
 
 /// Said where the port is asked for and the build found no archive of it.
-pub const NO_BOARD: &str = "built without the port `board`: no libboard.a in HYPHALOOM_LIB_DIR or ../target/native";
+pub const NO_BOARD: &str = "built without the port `board`: no libhyphaloom.a in HYPHALOOM_LIB_DIR or ../target/native";

@@ -10,37 +10,44 @@
 //! # A request and its reply
 //!
 //! ```
-//! use hyphaloom::{config::POOL_BYTES, AppCookie, Eid, MsgIC, MsgType, Pool, Result, SendOutput, Stack, Tag};
+//! use hyphaloom::{config::POOL_BYTES, AppCookie, Eid, Fragmenter, MsgIC, MsgType, Pool, ReceiveHandle, Result, SendOutput, Stack, Tag};
+//!
+//! /// Carries all packets of a payload to another stack, and gives the handle of the message that they make there.
+//! fn carry(mut send: Fragmenter, payload: &[u8], to: &mut Stack, pool: &mut Pool) -> Result<Option<ReceiveHandle>> {
+//!     let (mut packet, mut handle) = ([0; 64], None);
+//!     loop {
+//!         match send.fragment(payload, &mut packet) {
+//!             SendOutput::Packet(p) => handle = to.receive(pool, p)?.map(|(_, handle)| handle),
+//!             SendOutput::Complete { .. } => return Ok(handle),
+//!             SendOutput::Error { err, .. } => return Err(err),
+//!         }
+//!     }
+//! }
 //!
 //! # fn main() -> Result<()> {
 //! let mut board = Stack::new(Eid(8), 64, 0)?;
 //! let mut blade = Stack::new(Eid(9), 64, 0)?;
 //! let mut board_pool: Pool = [0; POOL_BYTES];
 //! let mut blade_pool: Pool = [0; POOL_BYTES];
-//! let mut packet = [0; 64];
 //!
 //! // The board asks. `None` takes a free tag, and the cookie comes back with the reply.
-//! let mut request = board.start_send(Eid(9), MsgType(1), None, true, MsgIC(false), None, Some(AppCookie(7)))?;
-//! let mut asked = None;
-//! while let SendOutput::Packet(p) = request.fragment(b"who?", &mut packet) {
-//!     asked = blade.receive(&mut blade_pool, p)?.map(|(_, handle)| handle);
-//! }
+//! let request = board.start_send(Eid(9), MsgType(1), None, true, MsgIC(false), None, Some(AppCookie(7)))?;
+//! let asked = carry(request, b"who?", &mut blade, &mut blade_pool)?;
 //!
 //! // The blade looks at the question and answers under the board's tag.
 //! let handle = asked.expect("the last packet closes the message");
 //! let question = blade.fetch_message(&blade_pool, &handle)?;
 //! assert_eq!((question.source, question.payload), (Eid(8), &b"who?"[..]));
 //! let tag = Tag::Unowned(question.tag.tag());
-//! let mut reply = blade.start_send(question.source, question.typ, Some(tag), false, MsgIC(false), None, None)?;
+//! let reply = blade.start_send(question.source, question.typ, Some(tag), false, MsgIC(false), None, None)?;
 //! blade.finished_receive(handle)?;
 //!
 //! // The board takes the reply, with the cookie of its question.
-//! while let SendOutput::Packet(p) = reply.fragment(b"blade 41", &mut packet) {
-//!     if let Some((message, handle)) = board.receive(&mut board_pool, p)? {
-//!         assert_eq!((message.payload, message.cookie), (&b"blade 41"[..], Some(AppCookie(7))));
-//!         board.finished_receive(handle)?;
-//!     }
-//! }
+//! let answered = carry(reply, b"blade 41", &mut board, &mut board_pool)?;
+//! let handle = answered.expect("the last packet closes the message");
+//! let message = board.fetch_message(&board_pool, &handle)?;
+//! assert_eq!((message.payload, message.cookie), (&b"blade 41"[..], Some(AppCookie(7))));
+//! board.finished_receive(handle)?;
 //! # Ok(())
 //! # }
 //! ```

@@ -48,14 +48,17 @@ fn talk_in_c() {
     assert_eq!(run(&root().join("examples/talk.c"), "talk"), EXPECTED);
 }
 
-/// The README's lines in C.
+/// A wire and a clock for the README's lines in C.
+const WIRE: &str = include_str!("c/front_door.c");
+
+/// The README's lines in C, a board's loop, on that wire.
 #[test]
 fn the_front_door_in_c() {
     let readme = std::fs::read_to_string(root().join("README.md")).expect("a README");
     let (_, after) = readme.split_once("```c\n").expect("a block in C");
     let (block, _) = after.split_once("```").expect("the block's end");
     let source = Path::new(env!("CARGO_TARGET_TMPDIR")).join("front_door.c");
-    std::fs::write(&source, block).expect("a place for it");
+    std::fs::write(&source, [block, WIRE].concat()).expect("a place for it");
     assert_eq!(run(&source, "front_door"), "");
 }
 

@@ -1,8 +1,9 @@
-# Sourced by `archive` and `changed`: keeps the LLVM module that the toolchain's clang is given, and makes of it text for any machine.
+# Sourced by tools/archive and oracle/changed: keeps the LLVM module that the toolchain's clang is given, and makes of it text for any machine.
 machine=$(uname -m)
 home=${RATTLE_HOME:-$(dirname "$(dirname "$(readlink -f "$(rt doc)")")")}
 kit=$home/on/$machine
 clang=$kit/toolchain/bin/clang
+ar=$kit/toolchain/bin/llvm-ar
 [ -x "$clang" ] || { echo "$(basename "$0"): no clang for $machine in the toolchain" >&2; exit 2; }
 
 link_but() { # FROM TO BUT
@@ -28,6 +29,10 @@ module_text() { # KEPT, as text, to stdout
         sed -e '/^target datalayout/d' -e '/^target triple/d' -e 's/ "target-cpu"="x86-64"//'
 }
 
-compile_here() { # TEXT OBJECT: for this machine
-    "$clang" --target="$machine-unknown-linux-gnu" -Wno-override-module -O3 -fPIC -ffunction-sections -fdata-sections -c -x ir "$1" -o "$2"
+served() { # TRIPLE: whether clang knows it, with pointers and sizes of 8 bytes, lowest byte first
+    said=$(echo __SIZEOF_POINTER__ __SIZEOF_SIZE_T__ __BYTE_ORDER__ | "$clang" --target="$1" -E -P -x c - 2>/dev/null) && [ "$said" = "8 8 1234" ]
+}
+
+compile_for() { # TRIPLE TEXT OBJECT
+    "$clang" --target="$1" -Wno-override-module -O3 -fPIC -ffunction-sections -fdata-sections -c -x ir "$2" -o "$3"
 }
