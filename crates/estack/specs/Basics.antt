@@ -1,4 +1,4 @@
--- Document 01, "Stack": `new`, `set_eid`, `eid`, `is_local_dest`, `cancel_flow`, free tags.
+-- docs/RULES.md 59 to 62, 74 and 75: `new`, `set_eid`, `eid`, `is_local_dest`, `cancel_flow`, free tags.
 -- Each gives the answer and the next stack for every input; `NewMakes` gives the bytes of a new one.
 -- Leans on `mctp` for EIDs, on `slot_walks` for a cancel's walk.
 use Prim.Native.Nat.{ℕ}

@@ -1,4 +1,4 @@
-// The stack: every public call of document 01, over a state kept in lent bytes, after the Rust's `Stack` in src/lib.rs.
+// The stack: every public call of docs/RULES.md, over a state kept in lent bytes, after the Rust's `Stack` in src/lib.rs.
 // Here are `new`, EIDs, cancel and free tags; the other calls are handed on. Definitions: specs/Basics.antt.
 // Leans on `state` for the layout, on `slot_walks` and `flow_walks` for walks, on `sending`, `receiving`, `updating` and `handles` for their calls.
 ghost use mathlib.Core.Path.{_≡_};

@@ -1,5 +1,5 @@
-// Runs every figure of document 01, 'Figures from the bay', on the compiled code, and writes a line for each.
-// What it must write stands in `stdout`, taken from the document. Each figure has a fresh stack; the pool is lent to every receive and fetch.
+// Runs every figure of docs/RULES.md, section 11, on the compiled code, and writes a line for each.
+// What it must write stands in `stdout`, taken from there. Each figure has a fresh stack; the pool is lent to every receive and fetch.
 // Leans on `figures_parts` for a fresh stack (own EID 8, clock 0) and for each call, told in words.
 ghost use Prim.Native.Nat.{_≤_};
 ghost use lib.ListN.{length};

@@ -1,4 +1,4 @@
--- Figures of document 01, computed from the definitions over a table of 64 places: what sends get one after the other, and what they leave.
+-- Figures of docs/RULES.md, section 11, computed from the definitions over a table of 64 places: what sends get one after the other, and what they leave.
 use Prim.Native.Nat.{ℕ}
 use mathlib.Core.Path.{_≡_, refl}
 use mathlib.Core.Bool.{Bool, true, false}

@@ -1,4 +1,4 @@
--- Document 01, "Flows": the table as a list of places, keyed by peer and tag.
+-- docs/RULES.md 52 to 58: the table as a list of places, keyed by peer and tag.
 -- What a send, a removal and a check of time make of it.
 -- Leans on `find`, on `stamp` for events, on specs/Tags.antt for the search of a free tag.
 use Prim.Native.Nat.{ℕ, _+_, _%_}

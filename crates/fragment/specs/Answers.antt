@@ -1,4 +1,4 @@
--- What a send's start and a step answer in document 01's numbers; and a fragmenter as a row of numbers.
+-- What a send's start and a step answer in numbers (docs/RULES.md 17); and a fragmenter as a row of numbers.
 -- Leans on `mctp` for an answer.
 use Prim.Native.Nat.{ℕ}
 use mathlib.Core.List.{List, [], _∷_}

@@ -1,5 +1,5 @@
 -- The definitions that the contracts and theorems of `fragment` cite.
--- Step: document 01's step. Answers: what it answers in numbers. Cutting: what DSP0236 calls a message in packets. Run: steps until all is sent.
+-- Step: docs/RULES.md 25 to 36, one step. Answers: what it answers in numbers. Cutting: what DSP0236 calls a message in packets. Run: steps until all is sent.
 -- Leans on `mctp` for headers.
 pub mod Step
 pub mod Answers

@@ -1,4 +1,4 @@
--- Document 01, "Fragmenter": one step, in its order, and the bytes that it writes.
+-- docs/RULES.md 29 to 36: one step, in its order, and the bytes that it writes.
 -- A later step with room 4 emits a header alone: `emitted` says so in one place, by asking nothing of the room.
 -- Leans on `mctp` for the header's bytes.
 use Prim.Native.Nat.{ℕ, _+_, _-_, _*_, _%_, _≤_, _<_, min}

@@ -276,7 +276,7 @@ impl Fragmenter {
         }
     }
 
-    // What a step does with a payload and a packet buffer of these sizes, in document 01's order.
+    // What a step does with a payload and a packet buffer of these sizes, in the order of docs/RULES.md 30 to 33.
     pub fn plan(self, size: usize, room: usize) -> Plan
         ensures plan { λ r. ⌜ r ≡ planOf self size room ⌝ }
         ensures fits { λ r. ⌜ Writable r size room ⌝ }

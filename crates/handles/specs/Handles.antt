@@ -1,4 +1,4 @@
--- Document 01, "Handles", fetch, finish, return, set cookie, and the deferred lookups.
+-- docs/RULES.md 72, 73 and 76 to 82: fetch, finish, return, set cookie, and the deferred lookups.
 -- A handle is an index and an issue number.
 -- Leans on `slot` for a slot's part, on `receiving` for the count of handles.
 use Prim.Native.Nat.{ℕ, _+_, _*_}
@@ -29,7 +29,7 @@ use Rattle.handles.specs.declared.Deferred.{Deferred}
 use Rattle.handles.specs.declared.Deferred.the-variants.{Found, Nothing}
 use Rattle.slot.specs.Handle.{nextIssue, handleWords}
 
--- ---- answers in document 01's numbers
+-- ---- answers in numbers
 
 -- 0 and nothing else
 abbrev pub doneAs : Done → Answer

@@ -1,4 +1,4 @@
--- An answer in document 01's numbers: 0 with what else is told, or a refusal's number. Each enum that is the answer of a call has one definition
+-- An answer in numbers (docs/RULES.md 14): 0 with what else is told, or a refusal's number. Each enum that is the answer of a call has one definition
 -- of this kind, in its own crate, named after it (`receivedAs`, `updatedAs`, ..): the exported calls answer by it, and the promises speak of it.
 -- Leans on nothing.
 use Prim.Native.Nat.{ℕ}

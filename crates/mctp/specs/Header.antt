@@ -1,4 +1,4 @@
--- The packet on the wire (DSP0236, document 01's table): byte 0 reserved bits and version 1, byte 1 destination, byte 2 source,
+-- The packet on the wire (DSP0236, docs/RULES.md 9): byte 0 reserved bits and version 1, byte 1 destination, byte 2 source,
 -- byte 3 SOM, EOM, sequence, TO and tag; with SOM byte 4 holds IC and type. Reserved bits are encoded as 0 and ignored when read.
 -- Leans on `pick` alone.
 use Prim.Native.Nat.{ℕ, _+_, _*_, _/_, _%_, _<_}

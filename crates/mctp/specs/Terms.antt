@@ -1,4 +1,4 @@
--- The terms of document 01: EIDs, tags, keys, cookies, and the numbers of the refusals.
+-- The terms of docs/RULES.md, section 1: EIDs, tags, keys, cookies, and the numbers of the refusals.
 -- Two keys are one where `sameKey` says so.
 -- Leans on `pick` alone.
 use Prim.Native.Nat.{ℕ}

@@ -4,7 +4,7 @@
 ghost use mathlib.Core.Path.{_≡_};
 ghost use Prim.Native.Nat.{_≤_, _<_};
 ghost use Rattle.octets.specs.Bytes.{le};
-ghost use Rattle.mctp.specs.Terms.{normalEid, errorNo, tagOf, isOwner, tagUnder, sameKey, sameBool, cookieNo, cookieValue, cookieOf};
+ghost use Rattle.mctp.specs.Terms.{normalEid, errorNo, tagOf, isOwner, tagUnder, sameBool, cookieNo, cookieValue, cookieOf};
 ghost use Rattle.mctp.specs.Header.{headerOf, headerBytes, bit, typeByte, typeOf, lead, flagsOf};
 
 pub struct Eid(pub u8);
@@ -29,7 +29,7 @@ pub enum Cookie {
     Given(AppCookie),
 }
 
-// The refusals of document 01; `number` gives each its number there.
+// The refusals (docs/RULES.md 13); `number` gives each its number.
 pub enum Error {
     InvalidInput,
     NoSpace,
@@ -171,22 +171,6 @@ pub fn same_bool(a: bool, b: bool) -> bool
         return b;
     }
     !b
-}
-
-pub fn same_key(a: Key, b: Key) -> bool
-    ensures { λ r. ⌜ r ≡ sameKey a b ⌝ }
-{
-    if a.source.0 != b.source.0 {
-        return false;
-    }
-    if a.dest.0 != b.dest.0 {
-        return false;
-    }
-    let same = same_bool(a.owner, b.owner);
-    if same {
-        return a.tag.0 == b.tag.0;
-    }
-    false
 }
 
 // `n` where the bit is set, else 0.

@@ -44,7 +44,7 @@ heard q d b p o h e =
     let g : Performs (receive q ∷ []) b (d .after) (d .lent) (d .left) (d .said) = rw o at h in
     subst (λ (x : List ℕ). Heard q d b x) e (record { said = g .said; handle = g .handle; stands = record { stack = g .stack; pool = g .pool } })
 
--- "more" in document 01's numbers is "more"
+-- "more" in numbers is "more"
 as-more : (r : Received) → receivedAs r ≡ gives [] → r ≡ More
 as-more More e = refl
 as-more (Whole h) e = let z : _≡_ {A = ℕ} 2 0 = ap (λ (a : Answer). length (answerValues a)) e in absurd (omega arith)

@@ -1,4 +1,4 @@
--- The starred figures: the definitions give what document 01 says, all by computation.
+-- The starred figures: the definitions give what docs/RULES.md, section 11, says, all by computation.
 use mathlib.Core.Path.{refl}
 use mathlib.Core.List.{[], _∷_}
 use Rattle.octets.specs.Pick.{pick}

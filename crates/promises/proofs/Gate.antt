@@ -1,4 +1,4 @@
--- The slot that the search finds, and what passes its gate: a slot that collects the key of the packet, under the cookie of steps 2 and 4.
+-- The slot that the search finds, and what passes its gate: a slot that collects the key of the packet, under the cookie of rules 42 and 46.
 use Prim.Native.Nat.{ℕ, _<_}
 use mathlib.Core.Path.{_≡_, refl, sym, ap, _∙_}
 use mathlib.Core.Logic.{_⊎_, inl, inr}

@@ -92,7 +92,7 @@ module _ (B : ℕ) (K : Key) (typ : MsgType) (ic : MsgIC) (mtu : ℕ) (body : Li
         go false true false false ea eb ec ed y = absurd (no-true y)
 
 -- Demand 3, first half, for every world: if the packets `ps` carry `body` as one message of key K, and the premises of `Lawful` hold at the first of them,
--- then each packet but the last is answered "more" and the last hands out key, type, IC, body and the cookie of steps 2 and 4
+-- then each packet but the last is answered "more" and the last hands out key, type, IC, body and the cookie of rules 42 and 46
 pub hands-out : (B : ℕ) (K : Key) (typ : MsgType) (ic : MsgIC) (mtu : ℕ) (body : List ℕ) (ps : List (List ℕ)) (gaps : List (List Call)) (w : World)
     → Lawful B K typ ic mtu body ps gaps w
     → Delivers B (record { key = K; typ = typ; ic = ic; body = body; cookie = cookieFor K (w .stack) }) ps gaps w

@@ -1,5 +1,5 @@
 -- Demand 3: `hands-out` of HandOut and `told` of Told are its halves. Instances meets their premises, ShutOut excludes the wrong stacks.
--- Refusals: document 01's refusal rules.
+-- Refusals: docs/RULES.md 13 to 16.
 pub mod Facts
 pub mod Slots
 pub mod Pool

@@ -1,4 +1,4 @@
--- Document 01, "When the stack says no", as laws: each call gives the refusals that `refusalsOf` lists and no others, each alone, and exactly when it is due
+-- docs/RULES.md 13 to 16 as laws: each call gives the refusals that `refusalsOf` lists and no others, each alone, and exactly when it is due
 -- (`saysNo`); each of them is met; none changes a byte of a buffer; and most leave all as it was. What the others leave: `refused-receive`, `refused-send`,
 -- `refused-cancel`.
 use Prim.Native.Nat.{ℕ}

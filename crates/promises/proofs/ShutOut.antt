@@ -1,4 +1,4 @@
--- The wrong stacks that document 01, "Pinning every answer down", names: for each a statement that no stack of these definitions is one.
+-- Wrong stacks (docs/PROMISES.md, "Shut out"): for each a statement that no stack of these definitions is one.
 use Prim.Native.Nat.{ℕ, _-_, _≤_, _<_}
 use native.Mathlib.Omega.{arith}
 use mathlib.Core.Path.{_≡_, refl, sym, ap, _∙_, subst}

@@ -1,4 +1,4 @@
--- A stale handle stays stale. Document 01's fault: "Freeing by a stale handle: the slot may hold another message by then". A call refuses a handle that is no
+-- A stale handle stays stale. The mistake: freeing by a stale handle, when the slot may hold another message by then. A call refuses a handle that is no
 -- good; here no call makes one good again. After a call a slot has the state it had, or no handle is out, or it is out under the next number of the one
 -- count, and while that count goes on the next number is above every number that has gone out.
 use Prim.Native.Nat.{ℕ, zero, suc, _≤_, _<_}

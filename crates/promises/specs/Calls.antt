@@ -74,7 +74,7 @@ step B eid w = w
 step B (isLocalDest p) w = w
 step B (freeTags peer) w = w
 
--- what a call answers, in document 01's numbers
+-- what a call answers, in numbers
 abbrev pub performed : ℕ → Call → World → Answer
 performed B (receive p) w = receivedAs (receipt B p w .said)
 performed B (elsewhere n p) w = receivedAs (receiveOf B (w .stack) n p .said)

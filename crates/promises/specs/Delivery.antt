@@ -86,7 +86,7 @@ vacancy st = ltb (find isEmpty (st .slots)) (length (st .slots))
 abbrev pub ready : Key → Stack → Bool
 ready K st = collecting K st || (vacancy st && (K .owner || standing (K .source) (K .tag) (st .flows)))
 
--- the cookie of steps 2 and 4: a collecting slot keeps its own; else a reply has its flow's, and any other message none
+-- the cookie of rules 42 and 46: a collecting slot keeps its own; else a reply has its flow's, and any other message none
 abbrev pub cookieFor : Key → Stack → Cookie
 cookieFor K st =
     pick (collecting K st) (slotAt (find (collects K) (st .slots)) st .cookie)

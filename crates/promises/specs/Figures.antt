@@ -1,4 +1,4 @@
--- The starred figures of document 01 as one table: what the definitions give for each, and what the document says.
+-- The starred figures (docs/RULES.md, section 11) as one table: what the definitions give for each, and what is said there.
 -- A fresh stack of 4 slots of 1,032 bytes, own EID 8, clock 0; the pool is 4,128 zero bytes.
 -- Leans on `Calls` and the definitions of `estack` and `fragment`.
 use Prim.Native.Nat.{ℕ}
@@ -118,7 +118,7 @@ whole n = 0x01 ∷ 0x08 ∷ 0x09 ∷ 0xC9 ∷ 0x01 ∷ replicate n 7
 abbrev pub opener : List ℕ
 opener = 0x01 ∷ 0x08 ∷ 0x09 ∷ 0x89 ∷ 0x01 ∷ 0x2A ∷ []
 
--- the table: what the definitions give, and what document 01 says
+-- the table: what the definitions give, and what the rules say
 pub record Row : Type 0 where
   pub given : List Shown
   pub said : List Shown
@@ -170,7 +170,7 @@ joinOne = record { given = got (0x01 ∷ 0x08 ∷ 0x09 ∷ 0xC9 ∷ 0x01 ∷ 0x2
 abbrev pub table : List Row
 table = cutOnce ∷ cutTwice ∷ cutNothing ∷ mtus ∷ buffers ∷ freshTags ∷ longest ∷ tooLong ∷ expiry ∷ idle ∷ joinOne ∷ []
 
--- no figure, but document 01's last warning: four lost in a row, mid-message, are not seen. Of a message in six packets the first comes and then the sixth,
+-- no figure, but docs/RULES.md 47: four lost in a row, mid-message, are not seen. Of a message in six packets the first comes and then the sixth,
 -- which has the number that the second had: it is taken, and what came is handed out
 abbrev pub fourLost : Row
 fourLost = record { given = got (0x01 ∷ 0x08 ∷ 0x09 ∷ 0x59 ∷ 0xFF ∷ []) (step 1032 (receive opener) (bay 255)); said = message 9 1 (0x2A ∷ 0xFF ∷ []) ∷ empty false ∷ [] }

@@ -1,4 +1,4 @@
--- Document 01, "When the stack says no": which refusals a call can give, by number, when each is given, and what it leaves of the stack.
+-- docs/RULES.md 13 to 16: which refusals a call can give, by number, when each is given, and what it leaves of the stack.
 -- Leans on `Calls`, and on the definitions of each call for its tests.
 use Prim.Native.Nat.{ℕ, _+_, _-_, _*_, _%_, _≤_, _<_}
 use mathlib.Core.Path.{_≡_}
@@ -90,11 +90,11 @@ still (freeTags peer) = true
 
 -- ---- what a refused receive leaves
 
--- step 1 of a receive: the slot that a packet has, or the number of slots
+-- rule 39: the slot that a packet has, or the number of slots
 abbrev pub placeOf : List ℕ → Stack → ℕ
 placeOf p st = slotFor (headerOf p) (st .slots)
 
--- step 2: what an empty slot answers a packet: 1, 5, or 0 where the packet opens it
+-- rules 40 to 42: what an empty slot answers a packet: 1, 5, or 0 where the packet opens it
 abbrev pub asked : HeaderRead → Stack → ℕ
 asked Bad st = 1
 asked (Good h) st = pick (opening (st .head .«own_eid») h) (pick (h .key .owner) 0 (pick (standing (h .key .source) (h .key .tag) (st .flows)) 0 5)) 1
@@ -103,7 +103,7 @@ asked (Good h) st = pick (opening (st .head .«own_eid») h) (pick (h .key .owne
 abbrev pub overlong : ℕ → ℕ → ℕ → ℕ
 overlong B l n = pick (ltb B (l + n)) 2 0
 
--- steps 3 and 5, why a packet that has its slot is dropped: SOM with 4 bytes only, or a wrong sequence: 1; a body above B: 2; 0 where it is taken
+-- rules 45, 47 and 48, why a packet that has its slot is dropped: SOM with 4 bytes only, or a wrong sequence: 1; a body above B: 2; 0 where it is taken
 abbrev pub dropped : ℕ → HeaderRead → List ℕ → Reassembler → ℕ
 dropped B Bad p s = 0
 dropped B (Good h) p s =
@@ -220,7 +220,7 @@ pub data Uncancelled (peer : Eid) (tag : TagValue) (st : Stack) (n : ℕ) (st′
 
 -- ---- when each is given
 
--- the number that a call answers: 0, or the refusal that is due, in the order of document 01's tests
+-- the number that a call answers: 0, or the refusal that is due, in the order of the tests
 abbrev pub saysNo : ℕ → Call → World → ℕ
 saysNo B (receive p) w = receiveNo B (w .stack) (length (w .pool)) p
 saysNo B (elsewhere n p) w = receiveNo B (w .stack) n p

@@ -1,4 +1,4 @@
--- Document 01, "Reassembler", steps 2 to 6: what a packet makes of one slot. B is the most that a body holds; `now` is the event's stamp; `issue` is the
+-- docs/RULES.md 40 to 51: what a packet makes of one slot. B is the most that a body holds; `now` is the event's stamp; `issue` is the
 -- number of a handle that goes out. The plan says which bytes of the packet go where in the slot's body; a refusal moves none and frees the slot.
 -- Leans on `mctp` for the header and the refusals.
 use Prim.Native.Nat.{ℕ, _+_, _-_, _%_, _≤_}
@@ -39,7 +39,7 @@ localHeader own Bad = false
 abbrev pub localPacket : Eid → List ℕ → Bool
 localPacket own p = localHeader own (headerOf p)
 
--- step 2: what an empty slot asks of a header
+-- rules 40 to 42: what an empty slot asks of a header
 unfoldable pub opening : Eid → Header → Bool
 opening own h = pick (isLocal own (h .key .dest)) (pick (sameEid (h .key .source) anyEid) false (h .som)) false
 
@@ -56,11 +56,11 @@ opened h cookie = record {
   stamp = record { clock = 0; counter = 0 };
 }
 
--- step 2: TO=0 and no flow for source and tag: Unreachable. A reply's cookie is the flow's
+-- rules 40 to 42: TO=0 and no flow for source and tag: Unreachable. A reply's cookie is the flow's
 unfoldable pub gateReply : Header → Bool → Cookie → Gate
 gateReply h stands cookie = pick stands (Pass (opened h cookie)) (Shut Unreachable)
 
--- step 2, for an empty slot: destination neither own nor 0, source 255, or no SOM: InvalidInput. Otherwise no cookie
+-- rules 40 to 42, for an empty slot: destination neither own nor 0, source 255, or no SOM: InvalidInput. Otherwise no cookie
 unfoldable pub gateEmpty : Eid → Header → Bool → Cookie → Gate
 gateEmpty own h stands cookie =
     pick (opening own h) (pick (h .key .owner) (Pass (opened h Absent)) (gateReply h stands cookie)) (Shut InvalidInput)
@@ -73,7 +73,7 @@ gate own s h stands cookie = pick (isEmpty s) (gateEmpty own h stands cookie) (P
 abbrev pub freed : Error → List ℕ → Entry
 freed err p = record { slot = blankSlot; at = 0; from = length p; outcome = Freed err }
 
--- step 4: SOM sets type, IC and the sequence to expect, empties the body, stamps the slot
+-- rule 46: SOM sets type, IC and the sequence to expect, empties the body, stamps the slot
 abbrev pub begun : EventStamp → Header → ℕ → Reassembler → Reassembler
 begun now h kind s = record {
   state = s .state;
@@ -86,7 +86,7 @@ begun now h kind s = record {
   stamp = now;
 }
 
--- step 6: n bytes more. EOM: slot done, stamped, handle out
+-- rules 49 and 50: n bytes more. EOM: slot done, stamped, handle out
 abbrev pub appended : Bool → EventStamp → ℕ → ℕ → Reassembler → Reassembler
 appended eom now issue n s =
     pick eom
@@ -97,7 +97,7 @@ abbrev pub outcomeOf : Bool → Outcome
 outcomeOf true = Whole
 outcomeOf false = More
 
--- steps 5 and 6, the body starting at `start`: wrong sequence: InvalidInput, slot freed. Body above B: NoSpace, slot freed. Else appended
+-- rules 47 to 50, the body starting at `start`: wrong sequence: InvalidInput, slot freed. Body above B: NoSpace, slot freed. Else appended
 unfoldable pub append : ℕ → EventStamp → ℕ → Reassembler → Header → List ℕ → ℕ → Entry
 append B now issue s h p start =
     pick (eqb (h .seq) (s .«next_seq»))
@@ -105,7 +105,7 @@ append B now issue s h p start =
     (record { slot = appended (h .eom) now issue (length p - start) s; at = s .len; from = start; outcome = outcomeOf (h .eom) }))
     (freed InvalidInput p)
 
--- step 3: SOM with 4 bytes only: InvalidInput, slot freed. Then 4, 5 and 6
+-- rules 44 and 45: SOM with 4 bytes only: InvalidInput, slot freed. Then rules 46 to 50
 unfoldable pub enter : ℕ → EventStamp → ℕ → Reassembler → Header → List ℕ → Entry
 enter B now issue s h p =
     pick (h .som) (pick (ltb (length p) 5) (freed InvalidInput p) (append B now issue (begun now h (getD p 4 0) s) h p 5))

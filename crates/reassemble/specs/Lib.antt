@@ -1,4 +1,4 @@
 -- The definitions that the contracts of `reassemble` cite.
--- Enter: steps 2 to 6 of document 01's "Reassembler".
+-- Enter: docs/RULES.md 40 to 51.
 -- Leans on `slot` for a slot, on `mctp` for headers and refusals.
 pub mod Enter

@@ -115,7 +115,7 @@ fn freed_by(err: Error, packet: &[u8]) -> Entry
     }
 }
 
-// Step 4: SOM sets type, IC and the sequence to expect, empties the body, stamps the slot. The cookie stays.
+// Rule 46: SOM sets type, IC and the sequence to expect, empties the body, stamps the slot. The cookie stays.
 fn begin(s: Reassembler, h: Header, kind: u8, stamp: EventStamp) -> Reassembler
     ensures { λ r. ⌜ r ≡ begun stamp h kind s ⌝ }
 {
@@ -138,7 +138,7 @@ fn begin(s: Reassembler, h: Header, kind: u8, stamp: EventStamp) -> Reassembler
     }
 }
 
-// Step 6: n bytes more; with EOM done, stamped, handle out.
+// Rules 49 and 50: n bytes more; with EOM done, stamped, handle out.
 fn grow(s: Reassembler, eom: bool, stamp: EventStamp, issue: u64, n: usize) -> Reassembler
     requires { ⌜ s .len + n < 2 ^ 64 ⌝ }
     ensures { λ r. ⌜ r ≡ appended eom stamp issue n s ⌝ }

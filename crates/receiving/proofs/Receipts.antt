@@ -41,7 +41,7 @@ use Rattle.receiving.specs.declared.Received.the-variants.{Refused}
 use Rattle.slot.specs.Handle.{nextIssue}
 use Rattle.receiving.specs.Receive.{Receipt, Makes, refuse, settled, land, receiveAt, receiveBy, receiveOf}
 
--- step 3: the slot that the packet enters, the event's stamp and the number are the definition's
+-- rules 44 and 45: the slot that the packet enters, the event's stamp and the number are the definition's
 pub lands : (B i : ℕ) (st : Stack) (h : Header) (p : List ℕ) (s : Reassembler) (e : Entry) (t : EventStamp) (n : ℕ)
     → e ≡ enter B t n s h p → t ≡ next (st .head .now) → n ≡ nextIssue (st .head .issue)
     → settled B i (ticked st) (h .key) p e ≡ land B i st h p (Pass s)
@@ -88,7 +88,7 @@ not-empty Done same e = refl
 not-empty (HandleOut n) same e = refl
 
 module _ (B : ℕ) (st : Stack) (p : List ℕ) where
-  -- step 2, at an empty slot: the event counts whatever the gate says
+  -- rules 40 to 42, at an empty slot: the event counts whatever the gate says
   pub at-empty : (i : ℕ) (h : Header) (g : Gate) → isEmpty (slotAt i st) ≡ true
       → g ≡ gateEmpty (st .head .«own_eid») h (standing (h .key .source) (h .key .tag) (st .flows)) (flowCookie (h .key .source) (h .key .tag) (st .flows))
       → receiveAt B i st p (Good h) ≡ land B i (ticked st) h p g
@@ -103,7 +103,7 @@ module _ (B : ℕ) (st : Stack) (p : List ℕ) where
   unfolding receiveAt pick
   bad-at i e = rw e
 
-  -- step 1, a bad header
+  -- rule 39, a bad header
   pub bad-in : find isEmpty (st .slots) < length (st .slots) → receiveBy B st p Bad ≡ refuse InvalidInput (ticked st)
   unfolding receiveBy slotFor
   bad-in h =
@@ -119,7 +119,7 @@ module _ (B : ℕ) (st : Stack) (p : List ℕ) where
   bad-writes pool =
       pick-cases (λ (c : Receipt). over (c .at) (c .bytes) pool ≡ pool) (λ _. over-nil 0 pool) (λ _. over-nil 0 pool)
 
-  -- step 1, a good header
+  -- rule 39, a good header
   module _ (h : Header) where
     collecting-at : (i : ℕ) → collects (h .key) (slotAt i st) ≡ true → receiveAt B i st p (Good h) ≡ land B i st h p (Pass (slotAt i st))
     unfolding receiveAt gate pick

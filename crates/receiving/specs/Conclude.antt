@@ -1,4 +1,4 @@
--- Document 01, "Reassembler", step 6, and "Handles": what an outcome says, the number of the handle that goes out with a whole message, and the end
+-- docs/RULES.md 50 and 78: what an outcome says, the number of the handle that goes out with a whole message, and the end
 -- of a reply's flow.
 -- Leans on `reassemble` for the outcome, on `flows` for the flow's removal, on `state` for the stack.
 use Prim.Native.Nat.{ℕ}
@@ -29,7 +29,7 @@ receivedAs More = gives []
 receivedAs (Message h) = gives (handleWords h)
 receivedAs (Refused err) = refuses (errorNo err) []
 
--- step 6: with EOM, if TO=0 the flow is removed, and if it has gone already nothing happens
+-- rules 49 and 50: with EOM, if TO=0 the flow is removed, and if it has gone already nothing happens
 abbrev pub flowsAfter : Outcome → Key → List Flow → List Flow
 flowsAfter Going k flows = flows
 flowsAfter Whole k flows = pick (k .owner) flows (removed (k .source) (k .tag) flows)

@@ -1,4 +1,4 @@
--- Document 01, "Reassembler", receive: PoolShort first; then the slot, NoSpace before any look at the header; then steps 2 to 6. B is the most that a
+-- docs/RULES.md 38 to 51, receive: PoolShort first; then the slot, NoSpace before any look at the header; then rules 40 to 51. B is the most that a
 -- body holds; slot i keeps its body from byte B i of the pool. The answer holds the stack after the call, what is said, and the one write to the pool.
 -- Leans on `reassemble` for one slot's part, on `flows` for the reply's flow, on `receiving` for what an outcome says.
 use Prim.Native.Nat.{ℕ, _+_, _-_, _*_}
@@ -50,7 +50,7 @@ settled B i st k p e = record {
   bytes = drop (e .from) p;
 }
 
--- step 3: one event is counted, and the packet enters the slot
+-- rules 44 and 45: one event is counted, and the packet enters the slot
 unfoldable pub land : ℕ → ℕ → Stack → Header → List ℕ → Gate → Receipt
 land B i st h p (Shut err) = refuse err st
 land B i st h p (Pass s) =
@@ -60,7 +60,7 @@ land B i st h p (Pass s) =
 unfoldable pub isMiddle : Header → Progress → ℕ → ℕ → Bool
 isMiddle h p n B = pick (h .som) false (pick (h .eom) false (pick (eqb (h .seq) (p .seq)) (leb n (B - p .len)) false))
 
--- step 2: for an empty slot one event is counted
+-- rules 40 to 42: for an empty slot one event is counted
 abbrev pub countedOpening : Bool → Stack → Stack
 countedOpening empty st = pick empty (ticked st) st
 
@@ -73,7 +73,7 @@ unfoldable pub receiveAt : ℕ → ℕ → Stack → List ℕ → HeaderRead →
 receiveAt B i st p Bad = refuse InvalidInput (countedOpening (isEmpty (slotAt i st)) st)
 receiveAt B i st p (Good h) = land B i (countedOpening (isEmpty (slotAt i st)) st) h p (gateOf i st h)
 
--- step 1
+-- rule 39
 unfoldable pub receiveBy : ℕ → Stack → List ℕ → HeaderRead → Receipt
 receiveBy B st p r =
     pick (ltb (slotFor r (st .slots)) (length (st .slots))) (receiveAt B (slotFor r (st .slots)) st p r) (refuse NoSpace st)

@@ -1,4 +1,4 @@
-// Receive: document 01's call over the whole stack. Find the slot, gate, enter, settle: one store of one slot, one write to the pool, then the flow.
+// Receive, docs/RULES.md 38 to 51, over the whole stack. Find the slot, gate, enter, settle: one store of one slot, one write to the pool, then the flow.
 // A middle packet goes a short way: of its slot the sequence and the length alone are read and stored. Definitions: specs/Receive.antt, specs/Conclude.antt.
 // Leans on `state` for the layout, on `slot_walks` and `flow_walks` for searches, on `reassemble` for one slot's part.
 ghost use mathlib.Core.Path.{_≡_};
@@ -146,7 +146,7 @@ fn append_middle(
     Received::More
 }
 
-// Step 2: an empty slot counts one event, and asks what it asks.
+// Rules 40 to 42: an empty slot counts one event, and its gate looks at the packet.
 fn receive_opening(
     state: &mut [u8],
     sizes: Sizes,

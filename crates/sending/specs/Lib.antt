@@ -1,4 +1,4 @@
 -- The definitions that the contracts of `sending` cite.
--- Sends: document 01, `start_send`.
+-- Sends: docs/RULES.md 65 to 68, `start_send`.
 -- Leans on `flows`, `fragment`, `state` and `flow_walks`.
 pub mod Sends

@@ -1,4 +1,4 @@
--- Document 01, `start_send`: type above 127 or tag above 7 is InvalidInput with nothing changed; then, for an owned tag, the flow; then the sequence goes up
+-- docs/RULES.md 65 to 68, `start_send`: type above 127 or tag above 7 is InvalidInput with nothing changed; then, for an owned tag, the flow; then the sequence goes up
 -- modulo 4; then the smaller MTU, outside 5 to 255: BadArgument, with flow and sequence as they now are.
 -- Leans on `flows` for the table's part, on `fragment` for the fragmenter that comes out.
 use Prim.Native.Nat.{ℕ, min}

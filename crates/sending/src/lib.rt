@@ -1,4 +1,4 @@
-// Sending: `start_send`, document 01's order of type and tag, the flow, the sequence, the MTU; after the Rust's `Stack` in src/lib.rs.
+// Sending: `start_send`, docs/RULES.md 63 to 68: type and tag, the flow, the sequence, the MTU, in that order; after the Rust's `Stack` in src/lib.rs.
 // Definitions: specs/Sends.antt.
 // Leans on `flow_walks` for the flows in the state's bytes, on `fragment` for the fragmenter that comes out.
 ghost use mathlib.Core.Path.{_≡_};

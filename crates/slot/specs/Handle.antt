@@ -1,4 +1,4 @@
--- Document 01, "Handles": a handle is a slot's index and an issue number; the numbers are one count for the whole stack.
+-- docs/RULES.md 78 and 79: a handle is a slot's index and an issue number; the numbers are one count for the whole stack.
 -- Leans on `octets` for `pick`.
 use Prim.Native.Nat.{ℕ, _+_}
 use mathlib.Core.List.{List, [], _∷_}

@@ -14,7 +14,7 @@ use Rattle.stamp.specs.Stamp.{earlier}
 use Rattle.slot.specs.declared.Reassembler.{Reassembler}
 use Rattle.slot.specs.Slot.{blankSlot, isEmpty, isDone, collects}
 
--- step 1: the first collecting slot with the packet's key, else the first empty slot, else the number of slots. A bad header matches no slot
+-- rule 39: the first collecting slot with the packet's key, else the first empty slot, else the number of slots. A bad header matches no slot
 unfoldable pub slotFor : HeaderRead → List Reassembler → ℕ
 slotFor Bad slots = find isEmpty slots
 slotFor (Good h) slots =

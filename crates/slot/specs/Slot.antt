@@ -1,4 +1,4 @@
--- A slot: empty, collecting, or done; done has a handle out or not (document 01, "Reassembler", "Handles").
+-- A slot: empty, collecting, or done; done has a handle out or not (docs/RULES.md 37).
 -- What it answers to, and what a handle does to it.
 -- Leans on `mctp` for keys, on `stamp` for time.
 use Prim.Native.Nat.{ℕ}

@@ -4,7 +4,7 @@
 ghost use mathlib.Core.Path.{_≡_};
 ghost use mathlib.Core.Bool.{false};
 ghost use Rattle.slot.specs.Handle.{nextIssue};
-ghost use Rattle.slot.specs.Slot.{blankSlot, stateNo, isEmpty, isDone, handleIs, handleTaken, collects, isReply, keptUnder, slotTimeout, withState, withSlotCookie};
+ghost use Rattle.slot.specs.Slot.{blankSlot, stateNo, isEmpty, isDone, handleIs, handleTaken, isReply, keptUnder, slotTimeout, withState, withSlotCookie};
 use mctp::Cookie;
 use mctp::Eid;
 use mctp::Key;
@@ -129,16 +129,6 @@ impl Reassembler {
             State::Done => false,
             State::HandleOut(n) => n == issue,
         }
-    }
-
-    // Collecting, under that key.
-    pub fn matches_packet(self, key: Key) -> bool
-        ensures { λ r. ⌜ r ≡ collects key self ⌝ }
-    {
-        if self.phase() == 1 {
-            return mctp::same_key(self.key, key);
-        }
-        false
     }
 
     // The record in another state, under another cookie.

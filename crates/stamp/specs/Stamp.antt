@@ -1,4 +1,4 @@
--- Document 01, "Event stamp": a clock and a 32-bit counter, ordered by clock and then counter.
+-- docs/RULES.md 20 to 24: a clock and a 32-bit counter, ordered by clock and then counter.
 -- Age 6,000 leaves 0; 6,001 is expired, and so is a stamp later than now.
 -- Leans on `pick` alone.
 use Prim.Native.Nat.{ℕ, _+_, _-_, min}

@@ -1,4 +1,4 @@
 -- The definitions that the contracts of `updating` cite.
--- Update: document 01, `update`.
+-- Update: docs/RULES.md 69 to 71.
 -- Leans on `state` for the clock, on `state` for what a check finds.
 pub mod Update

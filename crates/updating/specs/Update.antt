@@ -1,4 +1,4 @@
--- Document 01, `update`: clock below the last: InvalidInput; otherwise the clock is taken; below the planned check: the gap and false; else slots and flows
+-- docs/RULES.md 69 to 71, `update`: clock below the last: InvalidInput; otherwise the clock is taken; below the planned check: the gap and false; else slots and flows
 -- expire, and the least of 100 and every remaining time is told and planned. The planned check stops at 2^64 - 1.
 -- Leans on `state` for what a check finds, on `flows` and `slot` for what expires.
 use Prim.Native.Nat.{ℕ, _+_, _-_, min}

@@ -1,4 +1,4 @@
-// Replays a stored list of calls on the exported calls, and compares each answer with the one that stands beside it: the original's, or where document 01
+// Replays a stored list of calls on the exported calls, and compares each answer with the one that stands beside it: the original's, or where docs/RULES.md
 // adds a rule, that rule's. It writes how many calls there were, and the first that differs. The list is the file `stdin`; oracle/README.md says how it is made.
 // Leans on `vectors_calls` for a call by its number, on `octets` for the records.
 ghost use Prim.Native.Nat.{_≤_};
