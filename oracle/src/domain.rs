@@ -1,4 +1,4 @@
-//! Document 01's domain of equality: the calls on which the original's answers bind.
+//! The domain of equality: the calls on which the original's answers bind.
 
 use crate::call::{Call, Lent};
 use crate::port::*;

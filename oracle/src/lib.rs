@@ -1,4 +1,4 @@
-//! Comparison of stacks that follow document 01.
+//! Comparison of stacks that follow the rules.
 //!
 //! `port` is what a stack is seen through, `original`, `model` and `board` are three of them; `call`, `harness`,
 //! `domain`, `generate`, `exhaustive`, `tally` and `compare` run two ports against each other, call by call; `list`, `make`

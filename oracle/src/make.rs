@@ -1,4 +1,4 @@
-//! Makes the stored list: document 01's figures, then rare situations, then random calls, answered by the original where they are in the domain
+//! Makes the stored list: the figures, then rare situations, then random calls, answered by the original where they are in the domain
 //! of equality, else by the model.
 
 use crate::call::{payload, Answer, Call, Lent, KEPT};
@@ -118,7 +118,7 @@ impl Maker {
         self.send(14, None);
     }
 
-    // Document 01's figures
+    // The figures
 
     pub fn figures(&mut self) {
         self.cuts();

@@ -1,4 +1,4 @@
-//! Document 01's prose as a program: every rule, those marked (added) as well. Written for reading, not for speed.
+//! The rules' prose as a program: every rule, those marked (added) as well. Written for reading, not for speed.
 
 use crate::port::*;
 
@@ -72,7 +72,7 @@ impl Stamp {
 
 // Fragmenter
 
-/// Its state is just what document 01 lists.
+/// Its state is just what the rules list.
 pub type Fragmenter = FragmenterView;
 
 fn step(f: &mut Fragmenter, payload: &[u8], out: &mut [u8]) -> Step {

@@ -1,4 +1,4 @@
-//! The original seen as a port, within document 01's domain of equality.
+//! The original seen as a port, within the domain of equality.
 //!
 //! What the original lacks is kept beside it: issue numbers (counted here, the caller's being genuine), free tags
 //! (counted over its flows), and the pool, to which each appended body is copied so that pools can be compared.

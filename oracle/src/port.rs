@@ -1,4 +1,4 @@
-//! Every public call of document 01, over numbers and byte slices.
+//! Every public call of the rules, over numbers and byte slices.
 
 pub const SLOTS: usize = 4;
 pub const BODY: usize = 1032;
@@ -6,7 +6,7 @@ pub const POOL: usize = SLOTS * BODY;
 pub const FLOWS: usize = 64;
 pub const TIMEOUT: u64 = 6000;
 
-/// The refusals, by document 01's numbers.
+/// The refusals, by their numbers.
 #[derive(Debug, Clone, Copy, PartialEq, Eq, PartialOrd, Ord)]
 #[repr(u8)]
 pub enum Refusal {
@@ -170,7 +170,7 @@ pub trait Port: Sized {
     fn cancel_flow(&mut self, source: u8, tag: u8) -> Result<(), Refusal>;
     fn free_tags(&self, peer: u8) -> u8;
 
-    // No calls of document 01: what a comparison needs beside them.
+    // No calls of the rules: what a comparison needs beside them.
 
     /// Bodies are read from `pool`, the one lent to every receive.
     fn snapshot(&self, pool: &[u8]) -> Snapshot;

@@ -1,4 +1,4 @@
-//! What the exported calls promise beyond document 01: rows that are no lawful send, and buffers of other lengths. The last
+//! What the exported calls promise beyond the rules: rows that are no lawful send, and buffers of other lengths. The last
 //! test shows that a byte that holds nothing and is not 0 is noticed.
 #![cfg(board)]
 

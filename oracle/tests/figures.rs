@@ -1,4 +1,4 @@
-//! Document 01's figures from the bay, through every port.
+//! The figures from the bay, through every port.
 
 #[cfg(board)]
 use oracle::board::Board;

@@ -1,4 +1,4 @@
-//! Document 01's figures from the bay, through the wrapper. Fresh stack, own EID 8, MTU 255, clock 0.
+//! The figures from the bay, through the wrapper. Fresh stack, own EID 8, MTU 255, clock 0.
 
 mod common;
 

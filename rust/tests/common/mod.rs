@@ -6,7 +6,7 @@ use hyphaloom::*;
 
 pub const POOL: Pool = [0; POOL_BYTES];
 
-/// Document 01's fresh stack: own EID 8, clock 0.
+/// The figures' fresh stack: own EID 8, clock 0.
 pub fn fresh(mtu: usize) -> Stack {
     Stack::new(Eid(8), mtu, 0).expect("a stack")
 }

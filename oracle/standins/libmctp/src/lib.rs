@@ -1,4 +1,4 @@
-//! Stand-in for `libmctp`: the header of document 01's table.
+//! Stand-in for `libmctp`: the header of the rules' table.
 #![no_std]
 #![allow(clippy::result_unit_err)]
 

@@ -1,4 +1,4 @@
-//! Stand-in for `mctp`: the types and constants of document 01.
+//! Stand-in for `mctp`: the types and constants of the rules.
 #![no_std]
 
 pub const MCTP_ADDR_NULL: Eid = Eid(0);
