@@ -279,19 +279,19 @@ fn refusals() -> Vec<(String, u64)> {
 
 /// Every constant that the header must have, from the sources.
 fn wanted_constants() -> BTreeMap<String, u64> {
-    let (state, mctp) = ("crates/state/src/lib.rt", "crates/mctp/src/lib.rt");
-    let (slots, body) = (number(state, "        slots: "), number("crates/slot/src/lib.rt", "MAX_PAYLOAD: usize = "));
+    let (config, mctp) = ("crates/config/src/lib.rt", "crates/mctp/src/lib.rt");
+    let (slots, body) = (number(config, "NUM_RECEIVE: usize = "), number(config, "MAX_PAYLOAD: usize = "));
     let mut wanted = BTreeMap::from(
         [
             ("STATE_BYTES", number("crates/board/src/calls.rt", "a buffer of at least ")),
             ("SLOTS", slots),
             ("BODY_BYTES", body),
             ("POOL_BYTES", slots * body),
-            ("FLOWS", number(state, "FLOW_COUNT: usize = ")),
-            ("MIN_MTU", number(mctp, "HEADER_LEN: usize = ") + 1),
-            ("MAX_MTU", number("crates/fragment/src/lib.rt", "MAX_MTU: usize = ")),
-            ("TIMEOUT_MILLIS", number("crates/slot/src/lib.rt", "REASSEMBLY_EXPIRY_TIMEOUT: u32 = ")),
-            ("INTERVAL_MILLIS", number("crates/updating/src/lib.rt", "TIMEOUT_INTERVAL: u32 = ")),
+            ("FLOWS", number(config, "FLOWS: usize = ")),
+            ("MIN_MTU", number(config, "MIN_MTU: usize = ")),
+            ("MAX_MTU", number(config, "MAX_MTU: usize = ")),
+            ("TIMEOUT_MILLIS", number(config, "REASSEMBLY_EXPIRY_TIMEOUT: u32 = ")),
+            ("INTERVAL_MILLIS", number(config, "TIMEOUT_INTERVAL: u32 = ")),
             ("EID_NULL", number(mctp, "NULL: Eid = Eid(")),
             ("EID_ANY", number(mctp, "ANY: Eid = Eid(")),
             ("OK", 0),

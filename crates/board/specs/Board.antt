@@ -3,6 +3,7 @@
 -- Leans on `sending` for the send, on `rows` for its row.
 use mathlib.Core.List.{List}
 use Prim.Native.Nat.{ℕ}
+use Rattle.config.specs.Config.{slotCount, maxPayload}
 use Rattle.octets.specs.Pick.{pick}
 use Rattle.mctp.specs.declared.Error.the-variants.{InvalidInput}
 use Rattle.fragment.specs.declared.Started.the-variants.{Refused as Unstarted}
@@ -13,7 +14,7 @@ use Rattle.rows.specs.Words.{goodSend, sendOf}
 
 -- four slots, bodies of at most 1,032 bytes
 abbrev pub board : Sizes
-board = record { slots = 4; body = 1032 }
+board = record { slots = slotCount; body = maxPayload }
 
 -- a row that is no goodSend send is InvalidInput, with nothing changed
 unfoldable pub startOf : List ℕ → Stack → Sent

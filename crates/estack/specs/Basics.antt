@@ -7,6 +7,7 @@ use mathlib.Core.Bool.{Bool, true, false}
 use mathlib.Core.List.{List}
 use lib.Dec.{ltb}
 use lib.ListN.{replicate}
+use Rattle.config.specs.Config.{flowCount, minMtu}
 use Rattle.octets.specs.Pick.{pick}
 use Rattle.mctp.specs.declared.Eid.{Eid}
 use Rattle.mctp.specs.declared.EidRead.{EidRead}
@@ -21,7 +22,7 @@ use Rattle.slot.specs.Slot.{blankSlot}
 use Rattle.reassemble.specs.Enter.{localPacket}
 use Rattle.state.specs.declared.Sizes.{Sizes}
 use Rattle.state.specs.declared.Head.{Head}
-use Rattle.state.specs.Layout.{flowCount, size}
+use Rattle.state.specs.Layout.{size}
 use Rattle.state.specs.Head.{withOwn}
 use Rattle.state.specs.Stack.{Stack, Becomes, withHead, withSlots, withFlows}
 use Rattle.slot_walks.specs.SlotWalks.{swept, blocked}
@@ -51,7 +52,7 @@ freshStack z own mtu clock = record {
 -- what `new` says: an MTU under 5 is BadArgument, and so are sizes that no state has; a state buffer that is too short is NoSpace
 unfoldable pub newSays : Sizes → ℕ → ℕ → Done
 newSays z room mtu =
-    pick (ltb mtu 5) (Refused BadArgument)
+    pick (ltb mtu minMtu) (Refused BadArgument)
     (pick (ltb 255 (z .slots)) (Refused BadArgument)
     (pick (ltb 65535 (z .body)) (Refused BadArgument) (pick (ltb room (size z)) (Refused NoSpace) Well)))
 

@@ -39,7 +39,7 @@ pub fn new(state: &mut [u8], sizes: Sizes, own: Eid, mtu: usize, clock: u64) -> 
     ensures said { λ r. ⌜ r ≡ newSays sizes (length (now (state .entry))) mtu ⌝ }
     ensures stack { λ r. ⌜ NewMakes r sizes own mtu clock (now (state .entry)) (now (state .exit)) ⌝ }
 {
-    if mtu < 5 {
+    if mtu < config::MIN_MTU {
         return Done::Refused(Error::BadArgument);
     }
     if 255 < sizes.slots {

@@ -6,6 +6,7 @@ use mathlib.Core.Bool.{Bool}
 use mathlib.Core.List.{List}
 use borrow.Author.Tests.{lt-ltb, le-ltb}
 use lib.ListN.{length, getD, set}
+use Rattle.config.specs.Config.{flowCount}
 use Rattle.octets.specs.Pick.{pick}
 use Rattle.octets.specs.Find.{find}
 use Rattle.octets.proofs.Bools.{bool-cases}
@@ -23,7 +24,6 @@ use Rattle.flows.specs.Tags.{freeTagOf}
 use Rattle.flows.specs.Table.{Table, Flowed, noFlow, isFree, flowPlace, usedTags, lasts, newFlow, counted, insertFlow, turned, withTag, freshFlow, fixedFlow, setFlow}
 use Rattle.flows.proofs.TagLaws.{Told, searched}
 use Rattle.state.specs.declared.Sizes.{Sizes}
-use Rattle.state.specs.Layout.{flowCount}
 use Rattle.state.specs.Stack.{Stack, Kept, Becomes, stackOf, flowAt}
 use Rattle.state.proofs.StackLaws.{flows-length, stays, andThen}
 use Rattle.flow_walks.specs.FlowWalks.{tableOf, withTable}

@@ -4,9 +4,9 @@
 ghost use mathlib.Core.Path.{_≡_};
 ghost use mathlib.Core.List.{map, _∷_, []};
 ghost use Prim.Native.Nat.{_+_, _≤_, _<_, _^_};
+ghost use Rattle.config.specs.Config.{flowCount};
 ghost use Rattle.octets.specs.Find.{find};
 ghost use Rattle.flows.specs.Table.{isFree, flowPlace, removed, usedTags, flowTimeout, fadedFlow, insertFlow, counted as countedBy, freshFlow, fixedFlow, setFlow};
-ghost use Rattle.state.specs.Layout.{flowCount};
 ghost use Rattle.state.specs.Stack.{Kept, Becomes, stackOf, flowAt, withFlow, withStamp, withFlows};
 ghost use Rattle.stamp.specs.Checks.{checkOf};
 ghost use Rattle.state.specs.Times.{flowTimes};
@@ -27,7 +27,7 @@ fn find_flow_word(state: &[u8], sizes: Sizes, w: u32) -> usize
     ensures { λ r. ⌜ (r ≡ find (hasFlowWord w) (stackOf sizes (now (state .entry)) .flows)) × (r ≤ flowCount) ⌝ }
 {
     let mut i = 0;
-    while i < state::FLOW_COUNT {
+    while i < config::FLOWS {
         if state::flow_word_at(state, sizes, i) == w {
             return i;
         }
@@ -54,7 +54,7 @@ fn find_free(state: &[u8], sizes: Sizes) -> usize
     ensures { λ r. ⌜ (r ≡ find isFree (stackOf sizes (now (state .entry)) .flows)) × (r ≤ flowCount) ⌝ }
 {
     let mut i = 0;
-    while i < state::FLOW_COUNT {
+    while i < config::FLOWS {
         let f = state::flow_at(state, sizes, i);
         if f.used {
             i += 1;
@@ -72,7 +72,7 @@ pub fn used_tags(state: &[u8], sizes: Sizes, peer: Eid) -> u8
 {
     let mut used: u8 = 0;
     let mut i = 0;
-    while i < state::FLOW_COUNT {
+    while i < config::FLOWS {
         let f = state::flow_at(state, sizes, i);
         used = f.mark(peer, used);
         i += 1;
@@ -86,7 +86,7 @@ pub fn remove_flow(state: &mut [u8], sizes: Sizes, peer: Eid, tag: TagValue)
     ensures { λ _. ⌜ Becomes sizes (now (state .entry)) (now (state .exit)) (withFlows (removed peer tag (stackOf sizes (now (state .entry)) .flows)) (stackOf sizes (now (state .entry)))) ⌝ }
 {
     let at = find_flow(state, sizes, peer, tag);
-    if at < state::FLOW_COUNT {
+    if at < config::FLOWS {
         state::put_flow(state, sizes, at, flows::no_flow());
     }
 }
@@ -116,7 +116,7 @@ fn insert_flow(
 {
     let stamp = counted(state, sizes, expires);
     let i = find_free(state, sizes);
-    if i < state::FLOW_COUNT {
+    if i < config::FLOWS {
         let f = flows::new_flow(peer, tag, expires, cookie, stamp);
         state::put_flow(state, sizes, i, f);
         return Granted::Tag(tag);
@@ -150,7 +150,7 @@ fn fixed_flow(
     ensures { λ r. ⌜ (r ≡ fixedFlow peer tag expires cookie (tableOf (stackOf sizes (now (state .entry)))) .granted) × Becomes sizes (now (state .entry)) (now (state .exit)) (withTable (fixedFlow peer tag expires cookie (tableOf (stackOf sizes (now (state .entry)))) .table) (stackOf sizes (now (state .entry)))) ⌝ }
 {
     let i = find_flow(state, sizes, peer, tag);
-    if i < state::FLOW_COUNT {
+    if i < config::FLOWS {
         let f = state::flow_at(state, sizes, i);
         let lasting = f.is_lasting();
         if lasting {
@@ -205,7 +205,7 @@ pub fn expire_flows(state: &mut [u8], sizes: Sizes, clock: u64, c: Check) -> Che
 {
     let mut found = c;
     let mut i = 0;
-    while i < state::FLOW_COUNT {
+    while i < config::FLOWS {
         found = expire_flow(state, sizes, i, clock, found);
         i += 1;
     }

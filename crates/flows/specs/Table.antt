@@ -7,6 +7,7 @@ use mathlib.Core.Bool.{Bool, true, false, not}
 use mathlib.Core.List.{List}
 use lib.Dec.{ltb}
 use lib.ListN.{length, getD, set}
+use Rattle.config.specs.Config.{flowTime}
 use Rattle.octets.specs.Pick.{pick}
 use Rattle.octets.specs.Find.{find}
 use Rattle.mctp.specs.declared.Eid.{Eid}
@@ -29,10 +30,6 @@ use Rattle.flows.specs.declared.TagFound.the-variants.{Free, NoneFree}
 use Rattle.flows.specs.declared.Granted.{Granted}
 use Rattle.flows.specs.declared.Granted.the-variants.{Tag, Refused}
 use Rattle.flows.specs.Tags.{freeTagOf, bitsOf}
-
--- 6,000 ms
-abbrev pub flowTime : ℕ
-flowTime = 6000
 
 -- a place that holds no flow
 abbrev pub noFlow : Flow

@@ -22,8 +22,6 @@ use stamp::Timeout;
 
 pub mod tags; // tags.rt: tags as bits of a byte, and the search for a free one
 
-pub const FLOW_EXPIRY_TIMEOUT: u32 = 6000;
-
 pub enum Expiry {
     Never,
     From(EventStamp),
@@ -110,7 +108,7 @@ impl Flow {
         let expiry = self.expiry;
         match expiry {
             Expiry::Never => Timeout::Untimed,
-            Expiry::From(s) => s.check_timeout(now, FLOW_EXPIRY_TIMEOUT),
+            Expiry::From(s) => s.check_timeout(now, config::FLOW_EXPIRY_TIMEOUT),
         }
     }
 

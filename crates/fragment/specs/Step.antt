@@ -6,6 +6,7 @@ use mathlib.Core.Bool.{Bool, true, false}
 use mathlib.Core.List.{List, [], _∷_, _++_}
 use lib.Dec.{ltb, leb, eqb}
 use lib.ListN.{length}
+use Rattle.config.specs.Config.{minMtu, maxMtu}
 use Rattle.octets.specs.Pick.{pick}
 use Rattle.octets.specs.Bytes.{part}
 use Rattle.mctp.specs.declared.Eid.{Eid}
@@ -49,8 +50,8 @@ unfoldable pub newOf : MsgType → Eid → Eid → Tag → ℕ → Cookie → Ms
 newOf typ src dest tag mtu cookie ic seq =
     pick (ltb 7 (tagOf tag .0)) (Refused InvalidInput)
     (pick (ltb 127 (typ .0)) (Refused InvalidInput)
-    (pick (ltb mtu 5) (Refused BadArgument)
-    (pick (ltb 255 mtu) (Refused BadArgument) (Sends (fresh typ src dest tag mtu cookie ic seq)))))
+    (pick (ltb mtu minMtu) (Refused BadArgument)
+    (pick (ltb maxMtu mtu) (Refused BadArgument) (Sends (fresh typ src dest tag mtu cookie ic seq)))))
 
 -- total room: the smaller of buffer and MTU
 abbrev pub roomOf : Fragmenter → ℕ → ℕ
@@ -158,5 +159,5 @@ pub record Sound (f : Fragmenter) : Type 0 where
   pub seq : f .seq < 4
   pub tag : tagOf (f .tag) .0 < 8
   pub typ : f .typ .0 < 128
-  pub least : 5 ≤ f .mtu
-  pub most : f .mtu ≤ 255
+  pub least : minMtu ≤ f .mtu
+  pub most : f .mtu ≤ maxMtu

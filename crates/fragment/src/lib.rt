@@ -18,8 +18,6 @@ use mctp::MsgType;
 use mctp::Tag;
 use octets::smaller;
 
-pub const MAX_MTU: usize = 255;
-
 pub struct Fragmenter {
     pub src: Eid,
     pub dest: Eid,
@@ -163,10 +161,10 @@ impl Fragmenter {
         if 127 < typ.0 {
             return Started::Refused(Error::InvalidInput);
         }
-        if mtu < 5 {
+        if mtu < config::MIN_MTU {
             return Started::Refused(Error::BadArgument);
         }
-        if MAX_MTU < mtu {
+        if config::MAX_MTU < mtu {
             return Started::Refused(Error::BadArgument);
         }
         Started::Sends(Fragmenter {

@@ -5,16 +5,16 @@ ghost use mathlib.Core.Path.{_≡_};
 ghost use mathlib.Core.Bool.{true};
 ghost use Prim.Native.Nat.{_+_, _*_, _≤_};
 ghost use lib.ListN.{length};
+ghost use Rattle.config.specs.Config.{flowCount};
 ghost use Rattle.octets.specs.Region.{Holds, Regular};
 ghost use Rattle.flows.specs.Codec.{flowCodec, flowWidth};
-ghost use Rattle.state.specs.Layout.{headWidth, slotWidth, flowsAt, flowCount, slotsAt};
+ghost use Rattle.state.specs.Layout.{headWidth, slotWidth, flowsAt, slotsAt};
 ghost use Rattle.state.specs.Head.{headCodec};
 ghost use Rattle.state.specs.Slot.{slotCodec};
 ghost use Rattle.state.specs.Stack.{Kept};
 ghost use Rattle.kept.specs.Tells.{Tells};
 ghost use Rattle.kept.specs.Ranges.{HeadRanges, SlotRanges};
 use slot::Reassembler;
-use state::FLOW_COUNT;
 use state::FLOW_WIDTH;
 use state::FLOWS_AT;
 use state::HEAD_WIDTH;
@@ -54,7 +54,7 @@ fn head_ranges(h: Head) -> bool
     if h.next_timeout <= h.now.clock {
         return true;
     }
-    if 100 < h.next_timeout - h.now.clock {
+    if (config::TIMEOUT_INTERVAL as u64) < h.next_timeout - h.now.clock {
         return false;
     }
     true
@@ -121,7 +121,7 @@ fn flows_hold(state: &[u8]) -> bool
     ensures { λ r. ⌜ Tells (Regular flowCodec flowCount flowsAt (now (state .entry))) r ⌝ }
 {
     let mut i = 0;
-    while i < FLOW_COUNT {
+    while i < config::FLOWS {
         if !flow_holds(state, FLOWS_AT + FLOW_WIDTH * i) {
             return false;
         }

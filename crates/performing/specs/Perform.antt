@@ -6,6 +6,7 @@ use mathlib.Core.Path.{_≡_}
 use mathlib.Core.List.{List, [], _∷_}
 use lib.Dec.{ltb, eqb}
 use lib.ListN.{length}
+use Rattle.config.specs.Config.{maxPayload}
 use Rattle.octets.specs.Pick.{pick}
 use Rattle.octets.specs.Bytes.{over}
 use Rattle.mctp.specs.Answer.{Answer, answerNo, answerValues, rowAfter}
@@ -149,10 +150,10 @@ worldOf b l = record { stack = stackOf board b; pool = l .pool }
 
 -- the bytes b hold the stack, and l is lent; then the bytes are b′, what was lent is l′, and r is answered
 pub record Performs (cs : List Call) (b b′ : List ℕ) (l l′ : Lent) (r : ℕ) : Type 0 where
-  pub stack : Becomes board b b′ (steps 1032 cs (worldOf b l) .stack)
-  pub pool : l′ .pool ≡ steps 1032 cs (worldOf b l) .pool
-  pub said : r ≡ tells 1032 cs (worldOf b l) l .said
-  pub other : l′ .other ≡ tells 1032 cs (worldOf b l) l .other
-  pub handle : l′ .handle ≡ tells 1032 cs (worldOf b l) l .handle
-  pub message : l′ .message ≡ tells 1032 cs (worldOf b l) l .message
-  pub fragmenter : l′ .fragmenter ≡ tells 1032 cs (worldOf b l) l .fragmenter
+  pub stack : Becomes board b b′ (steps maxPayload cs (worldOf b l) .stack)
+  pub pool : l′ .pool ≡ steps maxPayload cs (worldOf b l) .pool
+  pub said : r ≡ tells maxPayload cs (worldOf b l) l .said
+  pub other : l′ .other ≡ tells maxPayload cs (worldOf b l) l .other
+  pub handle : l′ .handle ≡ tells maxPayload cs (worldOf b l) l .handle
+  pub message : l′ .message ≡ tells maxPayload cs (worldOf b l) l .message
+  pub fragmenter : l′ .fragmenter ≡ tells maxPayload cs (worldOf b l) l .fragmenter

@@ -7,6 +7,7 @@ use mathlib.Core.Path.{_≡_, refl, sym, ap, _∙_}
 use mathlib.Core.Bool.{Bool, true, false, not, _&&_}
 use mathlib.Core.List.{List}
 use borrow.Author.Tests.{le-ltb, leb-true, not-true}
+use Rattle.config.specs.Config.{slotTime}
 use Rattle.octets.specs.Pick.{pick, pick-cases}
 use Rattle.mctp.specs.declared.Eid.{Eid}
 use Rattle.mctp.specs.declared.EidRead.{EidRead}
@@ -19,7 +20,7 @@ use Rattle.stamp.specs.Stamp.{expired, timeoutOf, isExpired}
 use Rattle.slot.specs.declared.State.{State}
 use Rattle.slot.specs.declared.State.the-variants.{Done}
 use Rattle.slot.specs.declared.Reassembler.{Reassembler}
-use Rattle.slot.specs.Slot.{blankSlot, collects, outState, doneState, handleTaken, isDone, isReply, keptUnder, listed, timeIn, slotTime, slotTimeout, withState, withSlotCookie}
+use Rattle.slot.specs.Slot.{blankSlot, collects, outState, doneState, handleTaken, isDone, isReply, keptUnder, listed, timeIn, slotTimeout, withState, withSlotCookie}
 use Rattle.state.specs.Stack.{Stack}
 use Rattle.sending.specs.Sends.{startSendOf}
 use Rattle.estack.specs.Basics.{eidSet}

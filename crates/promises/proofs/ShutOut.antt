@@ -9,6 +9,7 @@ use lib.Dec.{ltb}
 use lib.ListN.{length, getD}
 use lib.Seq.{getD-set-same}
 use borrow.Author.Tests.{ltb-true, le-ltb}
+use Rattle.config.specs.Config.{interval}
 use Rattle.octets.specs.Pick.{pick, pick-false, pick-cases}
 use Rattle.mctp.specs.declared.Eid.{Eid}
 use Rattle.mctp.specs.declared.Key.{Key}
@@ -38,7 +39,7 @@ use Rattle.receiving.specs.Conclude.{saidOf}
 use Rattle.receiving.specs.Receive.{Receipt, receiveOf}
 use Rattle.stamp.specs.Checks.{leastLeft}
 use Rattle.state.specs.Times.{slotTimes}
-use Rattle.updating.specs.Update.{Update, interval, leastOf, checked, updateOf}
+use Rattle.updating.specs.Update.{Update, leastOf, checked, updateOf}
 use Rattle.estack.specs.Basics.{freeTagsOf}
 use Rattle.promises.specs.Calls.{World, Call, receive, step, receipt}
 use Rattle.promises.specs.Delivery.{Message, Delivers, Lawful}

@@ -6,6 +6,7 @@ use mathlib.Core.Bool.{Bool, true, false, not, _&&_}
 use mathlib.Core.List.{List, [], _∷_}
 use lib.Dec.{leb}
 use lib.ListN.{length}
+use Rattle.config.specs.Config.{slotTime}
 use Rattle.octets.specs.Bytes.{over}
 use Rattle.mctp.specs.declared.Eid.{Eid}
 use Rattle.mctp.specs.declared.TagValue.{TagValue}
@@ -110,7 +111,7 @@ replyOf K peer tag = not (K .owner) && (sameEid (K .source) peer && sameTag (K .
 abbrev pub permitted : Key → ℕ → Call → Bool
 permitted K t₀ (receive p) = not (hasKey K (headerOf p))
 permitted K t₀ (elsewhere n p) = not (hasKey K (headerOf p))
-permitted K t₀ (update t) = leb t (t₀ + 6000)
+permitted K t₀ (update t) = leb t (t₀ + slotTime)
 permitted K t₀ (startSend q) = true
 permitted K t₀ (cancelFlow peer tag) = not (replyOf K peer tag)
 permitted K t₀ (getDeferred source tag) = true

@@ -7,6 +7,7 @@ use mathlib.Core.Bool.{Bool, true, false, _&&_, _||_}
 use mathlib.Core.List.{List, [], _∷_}
 use lib.Dec.{ltb, eqb}
 use lib.ListN.{length, getD}
+use Rattle.config.specs.Config.{minMtu, maxMtu}
 use Rattle.octets.specs.Pick.{pick}
 use Rattle.octets.specs.Find.{find}
 use Rattle.mctp.specs.declared.Eid.{Eid}
@@ -173,7 +174,7 @@ flowNo peer (Unowned tag) st = 0
 
 -- an MTU outside 5 to 255
 abbrev pub mtuNo : ℕ → ℕ
-mtuNo mtu = pick (ltb mtu 5) 3 (pick (ltb 255 mtu) 3 0)
+mtuNo mtu = pick (ltb mtu minMtu) 3 (pick (ltb maxMtu mtu) 3 0)
 
 -- what a send is answered: type above 127 or tag above 7: 1; else by its flow, and then by its MTU
 abbrev pub sendNo : Send → Stack → ℕ
@@ -193,7 +194,7 @@ pub data Unsent (q : Send) (st : Stack) (n : ℕ) (st′ : Stack) : Type 0 where
   table-full : (q .tag ≡ Fresh → 0 < freeTagsOf (q .dest) st) → find isFree (st .flows) ≡ length (st .flows) → n ≡ 4
       → st′ ≡ withHead (untagged (q .tag) (q .expires) (st .head)) st → Unsent q st n st′
   -- an MTU outside 5 to 255: the stack that the same send with an MTU of 5 leaves, flow and sequence as they now are
-  bad-mtu : (mtuOf (q .mtu) (st .head .mtu) < 5) ⊎ (255 < mtuOf (q .mtu) (st .head .mtu)) → n ≡ 3
+  bad-mtu : (mtuOf (q .mtu) (st .head .mtu) < minMtu) ⊎ (maxMtu < mtuOf (q .mtu) (st .head .mtu)) → n ≡ 3
       → st′ ≡ startSendOf (withMtu (AtMost 5) q) st .stack → Unsent q st n st′
 
 -- ---- what a refused cancel leaves

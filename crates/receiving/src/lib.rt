@@ -188,7 +188,7 @@ fn gate_by_flow(state: &[u8], sizes: Sizes, h: Header) -> Gate
     let source = h.key.source;
     let tag = h.key.tag;
     let i = flow_walks::find_flow(state, sizes, source, tag);
-    if i < state::FLOW_COUNT {
+    if i < config::FLOWS {
         let f = state::flow_at(state, sizes, i);
         let cookie = f.cookie;
         return reassemble::gate_reply(h, true, cookie);

@@ -5,6 +5,7 @@ use Prim.Native.Nat.{ℕ}
 use mathlib.Core.Bool.{Bool, true, false, not}
 use mathlib.Core.List.{List, [], _∷_}
 use lib.Dec.{eqb}
+use Rattle.config.specs.Config.{slotTime}
 use Rattle.octets.specs.Pick.{pick}
 use Rattle.mctp.specs.declared.Eid.{Eid}
 use Rattle.mctp.specs.declared.TagValue.{TagValue}
@@ -18,10 +19,6 @@ use Rattle.stamp.specs.Stamp.{timeoutOf, isExpired}
 use Rattle.slot.specs.declared.State.{State}
 use Rattle.slot.specs.declared.State.the-variants.{Empty, Collecting, Done, HandleOut}
 use Rattle.slot.specs.declared.Reassembler.{Reassembler}
-
--- 6,000 ms
-abbrev pub slotTime : ℕ
-slotTime = 6000
 
 -- an empty slot holds nothing
 abbrev pub blankSlot : Reassembler

@@ -14,11 +14,6 @@ use mctp::TagValue;
 use stamp::EventStamp;
 use stamp::Timeout;
 
-// A message's body, at most.
-pub const MAX_PAYLOAD: usize = 1032;
-
-pub const REASSEMBLY_EXPIRY_TIMEOUT: u32 = 6000;
-
 // A slot's index, and the number under which its handle went out.
 pub struct ReceiveHandle {
     pub index: usize,
@@ -180,8 +175,8 @@ impl Reassembler {
         let stamp = self.stamp;
         match state {
             State::Empty => Timeout::Untimed,
-            State::Collecting => stamp.check_timeout(now, REASSEMBLY_EXPIRY_TIMEOUT),
-            State::Done => stamp.check_timeout(now, REASSEMBLY_EXPIRY_TIMEOUT),
+            State::Collecting => stamp.check_timeout(now, config::REASSEMBLY_EXPIRY_TIMEOUT),
+            State::Done => stamp.check_timeout(now, config::REASSEMBLY_EXPIRY_TIMEOUT),
             State::HandleOut(_) => Timeout::Untimed,
         }
     }

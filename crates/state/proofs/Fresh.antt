@@ -7,6 +7,7 @@ use mathlib.Core.List.{List, _++_}
 use lib.ListN.{length, take, drop, replicate, length-replicate, length-take, replicate-append-replicate}
 use lib.Seq.{take-at, drop-at}
 use lib.Dec.{lit<, lit≤}
+use Rattle.config.specs.Config.{flowCount}
 use Rattle.octets.specs.Bytes.{le, num, part, pack, lay}
 use Rattle.octets.specs.Pick.{pick}
 use Rattle.octets.specs.Region.{Codec, place, region, Holds, Regular}
@@ -20,7 +21,7 @@ use Rattle.flows.proofs.TableLaws.{no-flow-ok}
 use Rattle.slot.specs.Slot.{blankSlot}
 use Rattle.state.specs.declared.Head.{Head}
 use Rattle.state.specs.declared.Sizes.{Sizes}
-use Rattle.state.specs.Layout.{headWidth, slotWidth, flowCount, flowsAt, slotsAt, size, SizesOk}
+use Rattle.state.specs.Layout.{headWidth, slotWidth, flowsAt, slotsAt, size, SizesOk}
 use Rattle.state.specs.Head.{headCodec, headBytes, headOf, HeadOk}
 use Rattle.state.specs.Slot.{stateFrom, slotCodec, slotBytes, slotOf}
 use Rattle.state.specs.Stack.{Stack, stackOf, Kept, Becomes}

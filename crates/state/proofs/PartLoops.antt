@@ -8,6 +8,7 @@ use mathlib.Core.Bool.{Bool, true, false}
 use mathlib.Core.List.{List, [], _∷_, _++_, map}
 use lib.ListN.{length, getD, set, take, drop, take-append-drop, drop-of-length-le, length-drop}
 use lib.Seq.{drop-cons, take-suc-set, drop-set-lt, append-snoc, set-getD}
+use Rattle.config.specs.Config.{flowCount}
 use Rattle.octets.specs.Pick.{pick}
 use Rattle.stamp.specs.declared.Timeout.{Timeout}
 use Rattle.stamp.specs.Stamp.{isExpired}
@@ -16,7 +17,7 @@ use Rattle.flows.specs.Table.{noFlow, flowTimeout, fadedFlow}
 use Rattle.slot.specs.declared.Reassembler.{Reassembler}
 use Rattle.slot.specs.Slot.{blankSlot, slotTimeout, fadedSlot}
 use Rattle.state.specs.declared.Sizes.{Sizes}
-use Rattle.state.specs.Layout.{size, flowCount}
+use Rattle.state.specs.Layout.{size}
 use Rattle.state.specs.Stack.{Stack, stackOf, Kept, Becomes, withSlots, withFlows}
 use Rattle.state.proofs.StackLaws.{slots-length, flows-length, stays, determined}
 use Rattle.stamp.specs.declared.Check.{Check}

@@ -7,6 +7,7 @@ use borrow.Author.Tests.{ltb-true, ltb-false}
 use lib.Dec.{ltb}
 use lib.ListN.{length, getD, set, drop, take, take-append-drop, List·getD-eq-default}
 use lib.Seq.{set-out}
+use Rattle.config.specs.Config.{flowCount}
 use Rattle.octets.specs.Bytes.{part, over, lay, field}
 use Rattle.octets.specs.Region.{Codec, place, region, Regular, bytes}
 use Rattle.octets.proofs.Part.{part-same, part-below, part-add, length-over, drop-over, over-whole, lent, lent-back, lay-fits}
@@ -21,7 +22,7 @@ use Rattle.slot.specs.declared.Reassembler.{Reassembler}
 use Rattle.slot.specs.Slot.{blankSlot}
 use Rattle.state.specs.declared.Head.{Head}
 use Rattle.state.specs.declared.Sizes.{Sizes}
-use Rattle.state.specs.Layout.{headWidth, slotWidth, flowCount, slotsAt, flowsAt, size}
+use Rattle.state.specs.Layout.{headWidth, slotWidth, slotsAt, flowsAt, size}
 use Rattle.state.specs.Head.{headCodec, headBytes, headOf, HeadOk}
 use Rattle.state.specs.Slot.{slotCodec, slotBytes, slotOf, SlotOk}
 use Rattle.state.specs.Stack.{Stack, stackOf, encode, Kept, Becomes, withHead, withSlot, withFlow, slotAt, flowAt}

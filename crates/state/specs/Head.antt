@@ -3,6 +3,7 @@
 -- Leans on `octets` for numbers in bytes, on `stamp` for the clock.
 use Prim.Native.Nat.{ℕ, _+_, _%_, _^_, _<_, _≤_}
 use mathlib.Core.List.{List, [], _∷_}
+use Rattle.config.specs.Config.{interval}
 use Rattle.octets.specs.Bytes.{field, pack}
 use Rattle.octets.specs.Region.{Codec}
 use Rattle.mctp.specs.declared.Eid.{Eid}
@@ -38,7 +39,7 @@ pub record HeadOk (h : Head) : Type 0 where
   pub planned : h .«next_timeout» < 2 ^ 64
   pub issue : h .issue < 2 ^ 64
   pub mtu : h .mtu < 2 ^ 64
-  pub soon : h .«next_timeout» ≤ h .now .clock + 100  -- a planned check is at most 100 ms away
+  pub soon : h .«next_timeout» ≤ h .now .clock + interval  -- a planned check is at most 100 ms away
 
 abbrev pub headCodec : Codec Head
 headCodec = record { width = headWidth; enc = headBytes; dec = headOf; Ok = HeadOk }

@@ -1,7 +1,8 @@
--- Where the parts of the state lie: a head, 64 flow places, then the slots; the code's constants say the same.
+-- Where the parts of the state lie: a head, the flow places, then the slots; the code's constants say the same.
 -- The number of slots moves the end alone.
--- Leans on `flows` for a place's width.
+-- Leans on `flows` for a place's width, on `config` for their number.
 use Prim.Native.Nat.{ℕ, _+_, _*_, _≤_}
+use Rattle.config.specs.Config.{flowCount}
 use Rattle.flows.specs.Codec.{flowWidth}
 use Rattle.state.specs.declared.Sizes.{Sizes}
 
@@ -10,9 +11,6 @@ headWidth = 40
 
 abbrev pub slotWidth : ℕ
 slotWidth = 40
-
-abbrev pub flowCount : ℕ
-flowCount = 64
 
 abbrev pub flowsAt : ℕ
 flowsAt = headWidth

@@ -5,6 +5,7 @@ use Prim.Native.Nat.{ℕ, _+_, _≤_}
 use mathlib.Core.Path.{_≡_}
 use mathlib.Core.List.{List, _++_}
 use lib.ListN.{length, getD, set, drop}
+use Rattle.config.specs.Config.{flowCount}
 use Rattle.octets.specs.Bytes.{part}
 use Rattle.octets.specs.Region.{region, Holds, Regular, bytes}
 use Rattle.stamp.specs.declared.EventStamp.{EventStamp}
@@ -16,7 +17,7 @@ use Rattle.slot.specs.declared.Reassembler.{Reassembler}
 use Rattle.slot.specs.Slot.{blankSlot}
 use Rattle.state.specs.declared.Sizes.{Sizes}
 use Rattle.state.specs.declared.Head.{Head}
-use Rattle.state.specs.Layout.{headWidth, flowCount, flowsAt, slotsAt, size, SizesOk}
+use Rattle.state.specs.Layout.{headWidth, flowsAt, slotsAt, size, SizesOk}
 use Rattle.state.specs.Head.{headCodec, headBytes, headOf, withNow}
 use Rattle.state.specs.Slot.{slotCodec}
 

@@ -4,6 +4,7 @@
 ghost use mathlib.Core.Path.{_≡_};
 ghost use Prim.Native.Nat.{_+_, _%_, _≤_, _<_, _^_};
 ghost use lib.ListN.{replicate};
+ghost use Rattle.config.specs.Config.{interval};
 ghost use Rattle.octets.specs.Bytes.{lay, puts};
 ghost use Rattle.slot.specs.Slot.{stateNo};
 ghost use Rattle.flows.specs.Codec.{FlowOk, flowWord};
@@ -34,11 +35,9 @@ pub const FLOW_WIDTH: usize = 32;
 
 pub const SLOT_WIDTH: usize = 40;
 
-pub const FLOW_COUNT: usize = 64;
-
 pub const FLOWS_AT: usize = HEAD_WIDTH;
 
-pub const SLOTS_AT: usize = FLOWS_AT + FLOW_WIDTH * FLOW_COUNT;
+pub const SLOTS_AT: usize = FLOWS_AT + FLOW_WIDTH * config::FLOWS;
 
 // How many slots a stack has, and how many bytes a body may hold.
 pub struct Sizes {
@@ -49,8 +48,8 @@ pub struct Sizes {
 impl Sizes {
     // The board's sizes.
     pub const BOARD: Sizes = Sizes {
-        slots: 4,
-        body: slot::MAX_PAYLOAD,
+        slots: config::NUM_RECEIVE,
+        body: config::MAX_PAYLOAD,
     };
 }
 
@@ -68,7 +67,7 @@ pub struct Head {
 impl Head {
     fn with(self, own: Eid, stamp: EventStamp, planned: u64) -> Head
         requires { ⌜ HeadOk self ⌝ }
-        ensures { λ r. ⌜ (r ≡ headWith own stamp planned (self .«next_tag») (self .«next_seq») (self .issue) self) × ((planned ≤ stamp .clock + 100) → HeadOk r) ⌝ }
+        ensures { λ r. ⌜ (r ≡ headWith own stamp planned (self .«next_tag») (self .«next_seq») (self .issue) self) × ((planned ≤ stamp .clock + interval) → HeadOk r) ⌝ }
     {
         Head {
             own_eid: own,
@@ -93,7 +92,7 @@ impl Head {
     pub fn with_clock(self, stamp: EventStamp, planned: u64) -> Head
         requires { ⌜ HeadOk self ⌝ }
         ensures stamped { λ r. ⌜ r ≡ withPlanned planned (withNow stamp self) ⌝ }
-        ensures sound { λ r. ⌜ ((planned ≤ stamp .clock + 100) → HeadOk r) ⌝ }
+        ensures sound { λ r. ⌜ ((planned ≤ stamp .clock + interval) → HeadOk r) ⌝ }
     {
         let own = self.own_eid;
         self.with(own, stamp, planned)
@@ -458,7 +457,7 @@ pub fn flow_at(state: &[u8], sizes: Sizes, i: usize) -> Flow
     requires { ⌜ Kept sizes (now state) ⌝ }
     ensures { λ r. ⌜ (r ≡ flowAt i (stackOf sizes (now (state .entry)))) × FlowOk r ⌝ }
 {
-    if FLOW_COUNT <= i {
+    if config::FLOWS <= i {
         return flows::no_flow();
     }
     let at = FLOWS_AT + FLOW_WIDTH * i;
@@ -471,7 +470,7 @@ pub fn put_flow(state: &mut [u8], sizes: Sizes, i: usize, f: Flow)
     requires { ⌜ Kept sizes (now state) × FlowOk f ⌝ }
     ensures { λ _. ⌜ Becomes sizes (now (state .entry)) (now (state .exit)) (withFlow i f (stackOf sizes (now (state .entry)))) ⌝ }
 {
-    if FLOW_COUNT <= i {
+    if config::FLOWS <= i {
         return;
     }
     let at = FLOWS_AT + FLOW_WIDTH * i;
@@ -484,7 +483,7 @@ pub fn flow_word_at(state: &[u8], sizes: Sizes, i: usize) -> u32
     requires { ⌜ Kept sizes (now state) ⌝ }
     ensures { λ r. ⌜ r ≡ flowWord (flowAt i (stackOf sizes (now (state .entry)))) ⌝ }
 {
-    if FLOW_COUNT <= i {
+    if config::FLOWS <= i {
         return 0;
     }
     let at = FLOWS_AT + FLOW_WIDTH * i;

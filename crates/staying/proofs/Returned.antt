@@ -9,6 +9,7 @@ use lib.Dec.{ltb}
 use lib.ListN.{length, getD, set, take, length-set}
 use lib.Seq.{getD-set-same}
 use borrow.Author.Tests.{eq-eqb, eqb-true, ltb-true, ltb-false, not-true}
+use Rattle.config.specs.Config.{slotTime}
 use Rattle.octets.specs.Pick.{pick, pick-cases}
 use Rattle.octets.proofs.Bools.{bool-cases}
 use Rattle.octets.proofs.Each.{getD-mapped}
@@ -20,7 +21,7 @@ use Rattle.stamp.specs.Stamp.{timeoutOf, isExpired}
 use Rattle.slot.specs.declared.State.{State}
 use Rattle.slot.specs.declared.State.the-variants.{Empty, Collecting, Done, HandleOut}
 use Rattle.slot.specs.declared.Reassembler.{Reassembler}
-use Rattle.slot.specs.Slot.{blankSlot, outState, isDone, isEmpty, handleTaken, handleIs, isReply, keptUnder, listed, slotTime, timeIn, slotTimeout, fadedSlot, withState}
+use Rattle.slot.specs.Slot.{blankSlot, outState, isDone, isEmpty, handleTaken, handleIs, isReply, keptUnder, listed, timeIn, slotTimeout, fadedSlot, withState}
 use Rattle.slot.specs.Search.{earliest}
 use Rattle.state.specs.declared.Sizes.{Sizes}
 use Rattle.state.specs.Stack.{Stack, Kept, stackOf, slotAt}

@@ -6,6 +6,7 @@ use mathlib.Core.Path.{_≡_, refl, sym, ap, subst, _∙_}
 use mathlib.Core.Bool.{Bool, true, false}
 use mathlib.Core.List.{List, [], _∷_}
 use lib.ListN.{length, getD, replicate}
+use Rattle.config.specs.Config.{flowCount}
 use Rattle.octets.specs.Pick.{pick, pick-false, pick-cases}
 use Rattle.octets.proofs.Bools.{no-both}
 use Rattle.mctp.specs.declared.Eid.{Eid}
@@ -36,7 +37,6 @@ use Rattle.reassemble.specs.declared.Gate.{Gate}
 use Rattle.reassemble.specs.declared.Gate.the-variants.{Shut, Pass}
 use Rattle.reassemble.specs.Enter.{enter}
 use Rattle.state.specs.declared.Sizes.{Sizes}
-use Rattle.state.specs.Layout.{flowCount}
 use Rattle.state.specs.Stack.{Stack, slotAt, ticked}
 use Rattle.flow_walks.specs.FlowWalks.{tableOf}
 use Rattle.slot.specs.declared.ReceiveHandle.{ReceiveHandle}

@@ -7,6 +7,7 @@ use mathlib.Core.Bool.{Bool, true, false, not, _&&_}
 use mathlib.Core.List.{List, [], _∷_}
 use lib.Dec.{eqb, ltb}
 use lib.ListN.{length, take, drop}
+use Rattle.config.specs.Config.{slotTime}
 use Rattle.octets.specs.Pick.{pick}
 use Rattle.octets.specs.Bytes.{part, over}
 use Rattle.mctp.specs.declared.Eid.{Eid}
@@ -20,7 +21,7 @@ use Rattle.stamp.specs.Stamp.{isExpired}
 use Rattle.flows.specs.declared.Flow.{Flow}
 use Rattle.flows.specs.Table.{isFlow}
 use Rattle.slot.specs.declared.Reassembler.{Reassembler}
-use Rattle.slot.specs.Slot.{isDone, handleTaken, isReply, keptUnder, listed, slotTime, slotTimeout}
+use Rattle.slot.specs.Slot.{isDone, handleTaken, isReply, keptUnder, listed, slotTimeout}
 use Rattle.fragment.specs.Cutting.{bodyIn}
 use Rattle.state.specs.Stack.{Stack, slotAt}
 use Rattle.slot_walks.specs.SlotWalks.{blocked}

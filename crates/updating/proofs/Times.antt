@@ -7,6 +7,7 @@ use mathlib.Core.Bool.{Bool, true, false}
 use mathlib.Core.List.{List, [], _∷_, _++_, List·Memᴰ, List·Memᴰ·head, List·Memᴰ·tail, List·Memᴰ·not-nil, List·Memᴰ·cases-cons}
 use lib.Dec.{ltb}
 use borrow.Author.Tests.{ltb-true, ltb-false}
+use Rattle.config.specs.Config.{interval}
 use Rattle.octets.specs.Pick.{pick-cases}
 use Rattle.octets.proofs.Bools.{bool-cases}
 use Rattle.stamp.specs.declared.Timeout.{Timeout}
@@ -18,7 +19,7 @@ use Rattle.stamp.specs.Checks.{leastLeft}
 use Rattle.state.specs.Times.{slotTimes, flowTimes}
 use Rattle.updating.specs.declared.Updated.{Updated}
 use Rattle.updating.specs.declared.Updated.the-variants.{Next, Refused}
-use Rattle.updating.specs.Update.{Update, interval, leastOf, checked, updateOf}
+use Rattle.updating.specs.Update.{Update, leastOf, checked, updateOf}
 
 -- n is the least of a bound and every remaining time of a list
 pub record Least (l : List Timeout) (bound n : ℕ) : Type 0 where

@@ -5,6 +5,7 @@ use mathlib.Core.Path.{_≡_, refl, ap, subst, _∙_}
 use mathlib.Core.Bool.{false}
 use mathlib.Core.List.{List, map}
 use borrow.Author.Tests.{ltb-false}
+use Rattle.config.specs.Config.{interval}
 use Rattle.octets.specs.Pick.{pick-cases}
 use Rattle.stamp.specs.declared.EventStamp.{EventStamp}
 use Rattle.stamp.specs.Stamp.{clocked}
@@ -19,7 +20,7 @@ use Rattle.stamp.specs.declared.Check.{Check}
 use Rattle.stamp.specs.Checks.{checkOf}
 use Rattle.state.specs.Times.{slotTimes, flowTimes}
 use Rattle.updating.specs.declared.Updated.the-variants.{Next}
-use Rattle.updating.specs.Update.{interval, leastOf, expires, plannedAt, checked}
+use Rattle.updating.specs.Update.{leastOf, expires, plannedAt, checked}
 use Rattle.state.proofs.Steps.{Met}
 use Rattle.updating.proofs.Times.{least-of}
 

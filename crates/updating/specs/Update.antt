@@ -5,6 +5,7 @@ use Prim.Native.Nat.{ℕ, _+_, _-_, min}
 use mathlib.Core.Bool.{Bool, true, false}
 use mathlib.Core.List.{[], _∷_, map}
 use lib.Dec.{ltb}
+use Rattle.config.specs.Config.{interval}
 use Rattle.octets.specs.Pick.{pick}
 use Rattle.mctp.specs.declared.Error.the-variants.{InvalidInput}
 use Rattle.mctp.specs.Terms.{errorNo}
@@ -27,10 +28,6 @@ pub record Update : Type 0 where
 abbrev pub updatedAs : Updated → Answer
 updatedAs (Next millis expired) = gives (millis ∷ flagWord expired ∷ [])
 updatedAs (Refused err) = refuses (errorNo err) []
-
--- a check is planned at most so often
-abbrev pub interval : ℕ
-interval = 100
 
 -- the least of 100 and every remaining time; what has expired, what no time runs for and a handle that is out have none
 abbrev pub leastOf : ℕ → Stack → ℕ

@@ -3,6 +3,7 @@
 // Leans on `slot_walks` and `flow_walks` for what expires, on `state` for the clock and the planned check.
 ghost use mathlib.Core.Path.{_≡_};
 ghost use Prim.Native.Nat.{_+_, _≤_, _<_, min};
+ghost use Rattle.config.specs.Config.{interval};
 ghost use Rattle.state.specs.Head.{withNow, withPlanned};
 ghost use Rattle.state.specs.Stack.{Kept, Becomes, stackOf, withHead};
 ghost use Rattle.updating.specs.Update.{updateOf, checked, plannedAt};
@@ -18,8 +19,6 @@ pub enum Updated {
     Refused(Error),
 }
 
-pub const TIMEOUT_INTERVAL: u32 = 100;
-
 // The planned check stops at 2^64 - 1.
 fn plan_check(clock: u64, least: u32) -> u64
     ensures { λ r. ⌜ r ≡ plannedAt clock least ⌝ }
@@ -31,7 +30,7 @@ fn plan_check(clock: u64, least: u32) -> u64
 }
 
 fn put_clock(state: &mut [u8], sizes: Sizes, h: Head, stamp: EventStamp, next_timeout: u64)
-    requires { ⌜ Kept sizes (now state) × (h ≡ stackOf sizes (now state) .head) × («next_timeout» ≤ stamp .clock + 100) ⌝ }
+    requires { ⌜ Kept sizes (now state) × (h ≡ stackOf sizes (now state) .head) × («next_timeout» ≤ stamp .clock + interval) ⌝ }
     ensures { λ _. ⌜ Becomes sizes (now (state .entry)) (now (state .exit)) (withHead (withPlanned «next_timeout» (withNow stamp h)) (stackOf sizes (now (state .entry)))) ⌝ }
 {
     state::put_head(state, sizes, h.with_clock(stamp, next_timeout));
@@ -43,7 +42,7 @@ fn check(state: &mut [u8], sizes: Sizes, clock: u64) -> Updated
     ensures { λ r. ⌜ (r ≡ checked clock (stackOf sizes (now (state .entry))) .said) × Becomes sizes (now (state .entry)) (now (state .exit)) (checked clock (stackOf sizes (now (state .entry))) .stack) ⌝ }
 {
     let start = Check {
-        least: TIMEOUT_INTERVAL,
+        least: config::TIMEOUT_INTERVAL,
         expired: false,
     };
     let slots = slot_walks::expire_slots(state, sizes, clock, start);

@@ -1,7 +1,7 @@
 -- `expire_flows` is a check of time over the flows (`Checked`).
 use Prim.Native.Nat.{_-_}
 use denote.Ref.{now}
-use Rattle.state.specs.Layout.{flowCount}
+use Rattle.config.specs.Config.{flowCount}
 use Rattle.state.proofs.PartLoops.{timedFlows, Checked, check-start, check-next, check-done, check-length}
 use borrow.Author.Needs.{needs}
 use Rattle.flow_walks.proofs.expire_flows.Statement.{statement}

@@ -1,8 +1,8 @@
 -- `find_flow_word` meets its contract. The loop's invariant: none of the places before `i` has that word.
+use Rattle.config.specs.Config.{flowCount}
 use Rattle.octets.proofs.Finds.{here, next, none}
 use Rattle.octets.specs.Find.{find}
 use Rattle.flows.specs.Table.{noFlow}
-use Rattle.state.specs.Layout.{flowCount}
 use Rattle.state.specs.Stack.{stackOf}
 use Rattle.state.proofs.StackLaws.{flows-length}
 use Rattle.flow_walks.specs.FlowWalks.{hasFlowWord}

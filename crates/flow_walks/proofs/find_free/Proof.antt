@@ -1,9 +1,9 @@
 -- `find_free` meets its contract. The loop's invariant: each place before `i` holds a flow.
+use Rattle.config.specs.Config.{flowCount}
 use Rattle.octets.proofs.Finds.{here, next, none}
 use Rattle.octets.specs.Find.{find}
 use Rattle.flows.specs.declared.Flow.{Flow}
 use Rattle.flows.specs.Table.{noFlow, isFree}
-use Rattle.state.specs.Layout.{flowCount}
 use Rattle.state.specs.Stack.{stackOf}
 use Rattle.state.proofs.StackLaws.{flows-length}
 use denote.Ref.{now}

@@ -1,9 +1,9 @@
 -- `used_tags` meets its contract. The loop's invariant: the byte is that of the places before `i`.
+use Rattle.config.specs.Config.{flowCount}
 use Rattle.flows.specs.declared.Flow.{Flow}
 use Rattle.flows.specs.Tags.{marked}
 use Rattle.flows.specs.Table.{usedTags}
 use Rattle.flows.proofs.TagLaws.{used-next, used-none}
-use Rattle.state.specs.Layout.{flowCount}
 use Rattle.state.specs.Stack.{stackOf, flowAt}
 use Rattle.state.proofs.StackLaws.{flows-length, flow-ok}
 use denote.Ref.{now}

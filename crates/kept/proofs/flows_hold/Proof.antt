@@ -1,9 +1,10 @@
 -- The first i flow places are regular; one that is not refuses all (`blocks-not`).
 use Prim.Native.Nat.{_-_, _≤_}
 use denote.Ref.{now}
+use Rattle.config.specs.Config.{flowCount}
 use Rattle.octets.specs.Region.{Regular}
 use Rattle.flows.specs.Codec.{flowCodec}
-use Rattle.state.specs.Layout.{flowCount, flowsAt}
+use Rattle.state.specs.Layout.{flowsAt}
 use Rattle.kept.proofs.TellLaws.{says-no, says-yes, refuted, shown}
 use Rattle.kept.proofs.BlockLaws.{blocks-none, blocks-more, blocks-not, blocks-all}
 use borrow.Author.Needs.{needs}

@@ -14,6 +14,9 @@ returns-2 c = says-no (λ r. let l = r .seq in omega arith)
 returns-3 : tie.Need-returns-3
 returns-3 c = says-yes (search needs)
 
+cast-if4 : tie.Need-cast-if4
+cast-if4 c = search needs
+
 sub-if4 : tie.Need-sub-if4
 sub-if4 c = search needs
 
@@ -24,4 +27,4 @@ returns-5 : tie.Need-returns-5
 returns-5 c = says-yes (search needs)
 
 pub head-ranges-spec : {M : Type 1} → statement M
-head-ranges-spec = tie.close (tie.spec returns returns-2 returns-3 sub-if4 returns-4 returns-5)
+head-ranges-spec = tie.close (tie.spec returns returns-2 returns-3 cast-if4 sub-if4 returns-4 returns-5)
