@@ -23,9 +23,10 @@ use Rattle.slot.specs.declared.State.the-variants.{Collecting}
 use Rattle.slot.specs.declared.Reassembler.{Reassembler}
 use Rattle.reassemble.specs.declared.Gate.the-variants.{Pass}
 use Rattle.reassemble.specs.declared.Entry.{Entry}
+use Rattle.reassemble.specs.declared.Entry.the-variants.{Takes}
 use Rattle.slot.specs.Slot.{blankSlot, isEmpty, collects}
 use Rattle.slot.specs.Search.{slotFor}
-use Rattle.reassemble.specs.Enter.{enter, append, appended, outcomeOf}
+use Rattle.reassemble.specs.Enter.{enter, append, appended}
 use Rattle.fragment.specs.Cutting.{bodyIn, saysSom}
 use Rattle.state.specs.Stack.{Stack, slotAt, ticked}
 use Rattle.slot.specs.declared.ReceiveHandle.{ReceiveHandle}
@@ -54,7 +55,7 @@ receive-is B st room p h j s d r q i g = rw (d, q, le-ltb room (B * length (st .
 
 -- a packet of the number that is due, and that fits
 append-is : (B : ℕ) (now : EventStamp) (issue : ℕ) (s : Reassembler) (h : Header) (p : List ℕ) (start : ℕ) → h .seq ≡ s .«next_seq» → s .len + (length p - start) ≤ B
-    → append B now issue s h p start ≡ record { slot = appended (h .eom) now issue (length p - start) s; at = s .len; from = start; outcome = outcomeOf (h .eom) }
+    → append B now issue s h p start ≡ Takes (record { slot = appended (h .eom) now issue (length p - start) s; at = s .len; from = start; whole = h .eom })
 unfolding append pick
 append-is B now issue s h p start q f = rw (eq-eqb (h .seq) (s .«next_seq») q, le-ltb B (s .len + (length p - start)) f)
 
@@ -103,7 +104,7 @@ module _ (B : ℕ) (K : Key) (typ : MsgType) (ic : MsgIC) (cookie : Cookie) (t�
     stored = appended (h .eom) now₁ issue₁ (length (bodyIn p)) base
 
     entry : ℕ → Entry
-    entry n = record { slot = appended (h .eom) now₁ issue₁ n base; at = length bytes; from = lead (h .som); outcome = outcomeOf (h .eom) }
+    entry n = Takes (record { slot = appended (h .eom) now₁ issue₁ n base; at = length bytes; from = lead (h .som); whole = h .eom })
 
     chunk : drop (lead (h .som)) p ≡ bodyIn p
     chunk = ap (λ (r : HeaderRead). drop (lead (saysSom r)) p) (sym (o .read))
@@ -133,7 +134,7 @@ module _ (B : ℕ) (K : Key) (typ : MsgType) (ic : MsgIC) (cookie : Cookie) (t�
     clock-now = next-clock (st₁ .head .now) ∙ opening-clock (isEmpty (slotAt j (w .stack))) (w .stack)
 
     clock-after : w₁ .stack .head .now .clock ≡ w .stack .head .now .clock
-    unfolding w₁ step now₁
+    unfolding w₁ step entry now₁
     clock-after = rw arrives clock-now
 
     holds : B * j + B ≤ length (w .pool)
@@ -145,7 +146,7 @@ module _ (B : ℕ) (K : Key) (typ : MsgType) (ic : MsgIC) (cookie : Cookie) (t�
     body-after : bodyAt B j (length bytes + length (bodyIn p)) (w₁ .pool) ≡ bytes ++ bodyIn p
     body-after = rw pool-after (body-append B j (length bytes) (bodyIn p) (w .pool) (o .fits) holds ∙ ap (λ (r : List ℕ). r ++ bodyIn p) (o .body))
 
-    said-after : receipt B p w .said ≡ saidOf (outcomeOf (h .eom)) j issue₁
+    said-after : receipt B p w .said ≡ saidOf (h .eom) j issue₁
     unfolding entry st₁ issue₁
     said-after = ap (λ (r : Receipt). r .said) arrives
 
@@ -160,7 +161,7 @@ module _ (B : ℕ) (K : Key) (typ : MsgType) (ic : MsgIC) (cookie : Cookie) (t�
     unfolding w₁ stored base pick
     hands e = record {
       handle = handle;
-      told = ap receivedAs (said-after ∙ ap (λ (b : Bool). saidOf (outcomeOf b) j issue₁) e);
+      told = ap receivedAs (said-after ∙ ap (λ (b : Bool). saidOf b j issue₁) e);
       facts = messageIn B j (slotAt j (w₁ .stack));
       fetched = fetch-is B handle (w₁ .stack) (length (w₁ .pool)) room-after inside-after (ap (λ (s : Reassembler). s .state) made);
       message = rw made (ap (λ (b : List ℕ). record { key = K; typ = typ; ic = ic; body = b; cookie = cookie }) body-after);
@@ -176,7 +177,7 @@ module _ (B : ℕ) (K : Key) (typ : MsgType) (ic : MsgIC) (cookie : Cookie) (t�
     pub collects-more : h .eom ≡ false → (receipt B p w .said ≡ More) × Waiting ((h .seq + 1) % 4) (bytes ++ bodyIn p) (step B (receive p) w)
     unfolding w₁ stored base pick
     collects-more e = (
-      said-after ∙ ap (λ (b : Bool). saidOf (outcomeOf b) j issue₁) e,
+      said-after ∙ ap (λ (b : Bool). saidOf b j issue₁) e,
       record {
         stamp = o .stamp now₁;
         slot = made;

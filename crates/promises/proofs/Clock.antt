@@ -6,6 +6,7 @@ use mathlib.Core.List.{List}
 use Rattle.octets.specs.Pick.{pick-cases}
 use Rattle.mctp.specs.declared.Eid.{Eid}
 use Rattle.mctp.specs.declared.TagValue.{TagValue}
+use Rattle.mctp.specs.declared.Key.{Key}
 use Rattle.mctp.specs.declared.Header.{Header}
 use Rattle.mctp.specs.declared.HeaderRead.{HeaderRead}
 use Rattle.mctp.specs.declared.HeaderRead.the-variants.{Good, Bad}
@@ -21,16 +22,20 @@ use Rattle.flows.specs.Table.{Table, Flowed, usedTags, counted, insertFlow, tur
 use Rattle.flows.specs.Tags.{freeTagOf}
 use Rattle.reassemble.specs.declared.Gate.{Gate}
 use Rattle.reassemble.specs.declared.Gate.the-variants.{Shut, Pass}
+use Rattle.reassemble.specs.declared.Entry.{Entry}
+use Rattle.reassemble.specs.declared.Entry.the-variants.{Frees, Takes}
+use Rattle.reassemble.specs.Enter.{enter}
 use Rattle.slot.specs.Slot.{isEmpty}
 use Rattle.slot.specs.Search.{slotFor}
-use Rattle.state.specs.Stack.{Stack, slotAt}
+use Rattle.slot.specs.Handle.{nextIssue}
+use Rattle.state.specs.Stack.{Stack, slotAt, ticked}
 use Rattle.flow_walks.specs.FlowWalks.{tableOf}
 use Rattle.sending.specs.declared.Send.{Send}
 use Rattle.sending.specs.declared.UnderTag.{UnderTag}
 use Rattle.sending.specs.declared.UnderTag.the-variants.{Under, Refused as Untagged}
 use Rattle.sending.specs.declared.SendTag.{SendTag}
 use Rattle.sending.specs.declared.SendTag.the-variants.{Fresh, Owned, Unowned}
-use Rattle.receiving.specs.Receive.{Receipt, land, countedOpening, gateOf, receiveAt, receiveBy, receiveOf}
+use Rattle.receiving.specs.Receive.{Receipt, settled, land, countedOpening, gateOf, receiveAt, receiveBy, receiveOf}
 use Rattle.sending.specs.Sends.{Sent, ownedTag, tagFor, sendAs, sendTagged, startSendOf}
 
 pub next-clock : (s : EventStamp) → next s .clock ≡ s .clock
@@ -43,10 +48,15 @@ pub opening-clock : (b : Bool) (st : Stack) → countedOpening b st .head .now .
 opening-clock b st = pick-cases (λ (r : Stack). r .head .now .clock ≡ st .head .now .clock) (λ _. next-clock (st .head .now)) (λ _. refl)
 
 module _ (B : ℕ) (st : Stack) (p : List ℕ) where
+  settled-clock : (i : ℕ) (st₁ : Stack) (k : Key) (e : Entry) → settled B i st₁ k p e .stack .head .now .clock ≡ st₁ .head .now .clock
+  settled-clock i st₁ k (Frees err) = refl
+  settled-clock i st₁ k (Takes t) = refl
+
   land-clock : (i : ℕ) (st₁ : Stack) (h : Header) (g : Gate) → land B i st₁ h p g .stack .head .now .clock ≡ st₁ .head .now .clock
   unfolding land
   land-clock i st₁ h (Shut err) = refl
-  land-clock i st₁ h (Pass s) = next-clock (st₁ .head .now)
+  land-clock i st₁ h (Pass s) =
+      settled-clock i (ticked st₁) (h .key) (enter B (next (st₁ .head .now)) (nextIssue (st₁ .head .issue)) s h p) ∙ next-clock (st₁ .head .now)
 
   at-clock : (i : ℕ) (r : HeaderRead) → receiveAt B i st p r .stack .head .now .clock ≡ st .head .now .clock
   unfolding receiveAt

@@ -17,7 +17,7 @@ use Rattle.slot.specs.declared.State.the-variants.{HandleOut}
 use Rattle.mctp.specs.declared.Header.{Header}
 use Rattle.slot.specs.declared.Reassembler.{Reassembler}
 use Rattle.slot.specs.Slot.{blankSlot, issueIs}
-use Rattle.reassemble.specs.Enter.{appended, outcomeOf}
+use Rattle.reassemble.specs.Enter.{appended}
 use Rattle.fragment.specs.Cutting.{bodyIn}
 use Rattle.state.specs.Stack.{Stack, slotAt}
 use Rattle.slot.specs.declared.ReceiveHandle.{ReceiveHandle}
@@ -58,7 +58,7 @@ as-told (Told k) h e =
 as-told (Refused err) h e = absurd (error-some err (ap answerNo e))
 
 -- what is told with a handle is a message that is whole, under that slot and number
-pub told-of : (b : Bool) (i n : ℕ) (h : ReceiveHandle) → saidOf (outcomeOf b) i n ≡ Told h → (b ≡ true) × (record { index = i; issue = n } ≡ h)
+pub told-of : (b : Bool) (i n : ℕ) (h : ReceiveHandle) → saidOf b i n ≡ Told h → (b ≡ true) × (record { index = i; issue = n } ≡ h)
 told-of true i n h e = let z : record { index = i; issue = n } ≡ h = cc in (refl, z)
 told-of false i n h e = absurd (no-true (ap takes-more e))
   where

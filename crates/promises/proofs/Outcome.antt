@@ -4,7 +4,6 @@ use mathlib.Core.Path.{_≡_, refl, sym, ap, _∙_}
 use mathlib.Core.Bool.{Bool, true, false}
 use mathlib.Core.List.{List, []}
 use lib.ListN.{length, getD, set, drop, length-drop}
-use lib.Seq.{drop-length}
 use borrow.Author.Tests.{ltb-true, ltb-false, eqb-true}
 use Rattle.octets.specs.Pick.{pick-cases}
 use Rattle.mctp.specs.declared.Header.{Header}
@@ -19,9 +18,10 @@ use Rattle.slot.specs.declared.Reassembler.{Reassembler}
 use Rattle.reassemble.specs.declared.Gate.{Gate}
 use Rattle.reassemble.specs.declared.Gate.the-variants.{Shut, Pass}
 use Rattle.reassemble.specs.declared.Entry.{Entry}
+use Rattle.reassemble.specs.declared.Entry.the-variants.{Frees, Takes}
 use Rattle.slot.specs.Slot.{blankSlot, isEmpty}
 use Rattle.slot.specs.Search.{slotFor}
-use Rattle.reassemble.specs.Enter.{enter, append, appended, begun, freed, outcomeOf}
+use Rattle.reassemble.specs.Enter.{enter, append, appended, begun}
 use Rattle.fragment.specs.Cutting.{bodyIn, saysSom}
 use Rattle.state.specs.Stack.{Stack, slotAt, ticked}
 use Rattle.slot.specs.Handle.{nextIssue}
@@ -58,7 +58,7 @@ pub record Took (B : ℕ) (st : Stack) (p : List ℕ) (r : Receipt) (i : ℕ) (h
   pub slots : r .stack .slots ≡ set (st .slots) i (appended (h .eom) now issue (length (bodyIn p)) base)
   pub at : r .at ≡ B * i + base .len
   pub bytes : r .bytes ≡ bodyIn p
-  pub said : r .said ≡ saidOf (outcomeOf (h .eom)) i issue
+  pub said : r .said ≡ saidOf (h .eom) i issue
 
 pub data Outcome (B : ℕ) (st : Stack) (p : List ℕ) (r : Receipt) : Type 0 where
   quiet : r .stack .slots ≡ st .slots → r .bytes ≡ [] → takes (r .said) ≡ false → Outcome B st p r
@@ -83,9 +83,9 @@ module _ (B : ℕ) (st : Stack) (p : List ℕ) (h : Header) (read : headerOf p �
   Whole : Entry → Type 0
   Whole e = Outcome B st p (settled B i (ticked st₁) (h .key) p e)
 
-  drops : (err : Error) → Whole (freed err p)
+  drops : (err : Error) → Whole (Frees err)
   unfolding Whole
-  drops err = dropped i h read (r .source) (ap (λ (l : List Reassembler). set l i blankSlot) same) (drop-length p) refl
+  drops err = dropped i h read (r .source) (ap (λ (l : List Reassembler). set l i blankSlot) same) refl refl
 
   body-is : drop (lead (h .som)) p ≡ bodyIn p
   body-is = ap (λ (x : HeaderRead). drop (lead (saysSom x)) p) (sym read)
@@ -98,7 +98,7 @@ module _ (B : ℕ) (st : Stack) (p : List ℕ) (h : Header) (read : headerOf p �
 
   -- a packet of the number that is due, and that fits
   fills : (x : Reassembler) → Base st i h p x → h .seq ≡ x .«next_seq» → x .len + (length p - lead (h .som)) ≤ B
-      → Whole (record { slot = appended (h .eom) now₁ issue₁ (length p - lead (h .som)) x; at = x .len; from = lead (h .som); outcome = outcomeOf (h .eom) })
+      → Whole (Takes (record { slot = appended (h .eom) now₁ issue₁ (length p - lead (h .som)) x; at = x .len; from = lead (h .som); whole = h .eom }))
   unfolding Whole issue₁
   fills x isb n f = took i h (record {
     read = read;

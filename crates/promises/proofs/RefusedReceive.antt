@@ -5,7 +5,7 @@ use mathlib.Core.Bool.{Bool, true, false}
 use mathlib.Core.List.{List, [], _∷_}
 use lib.Dec.{eqb}
 use lib.ListN.{length, getD, set}
-use lib.Seq.{drop-length, getD-set-other}
+use lib.Seq.{getD-set-other}
 use borrow.Author.Tests.{ltb-true, ltb-false, eq-eqb}
 use Rattle.octets.specs.Pick.{pick, pick-true, pick-false, pick-cases}
 use Rattle.octets.proofs.Finds.{find-hit}
@@ -27,7 +27,8 @@ use Rattle.slot.specs.Search.{slotFor}
 use Rattle.reassemble.specs.declared.Gate.{Gate}
 use Rattle.reassemble.specs.declared.Gate.the-variants.{Shut, Pass}
 use Rattle.reassemble.specs.declared.Entry.{Entry}
-use Rattle.reassemble.specs.Enter.{opened, gate, gateEmpty, gateReply, enter, append, appended, begun, freed, outcomeOf}
+use Rattle.reassemble.specs.declared.Entry.the-variants.{Frees, Takes}
+use Rattle.reassemble.specs.Enter.{opened, gate, gateEmpty, gateReply, enter, append, appended, begun}
 use Rattle.state.specs.Stack.{Stack, slotAt, withSlot, ticked}
 use Rattle.slot.specs.Handle.{nextIssue}
 use Rattle.receiving.specs.Conclude.{receivedAs}
@@ -56,15 +57,15 @@ module _ (B : ℕ) (st : Stack) (room : ℕ) (p : List ℕ) (h : Header) (i k : 
   Ends e = Fate B st room p (Good h) i k (settled B i (ticked st₁) (h .key) p e)
 
   taken : (eom : Bool) (s : Reassembler) (at from : ℕ) → dropped B (Good h) p (slotAt i st) ≡ 0
-      → Ends (record { slot = s; at = at; from = from; outcome = outcomeOf eom })
+      → Ends (Takes (record { slot = s; at = at; from = from; whole = eom }))
   unfolding Ends Fate
   taken true s at from d = is ∙ d
   taken false s at from d = is ∙ d
 
   frees : (err : Error) → dropped B (Good h) p (slotAt i st) ≡ errorNo err → isOne (errorNo err) (1 ∷ 2 ∷ []) ≡ true
-      → isOne (errorNo err) (1 ∷ 2 ∷ 5 ∷ 6 ∷ []) ≡ true → Ends (freed err p)
+      → isOne (errorNo err) (1 ∷ 2 ∷ 5 ∷ 6 ∷ []) ≡ true → Ends (Frees err)
   unfolding Ends Fate
-  frees err d o m = (is ∙ d, record { among = sole m; left = drops (errorNo err) d o; bytes = drop-length p })
+  frees err d o m = (is ∙ d, record { among = sole m; left = drops (errorNo err) d o; bytes = refl })
 
   joins : (s : Reassembler) (start : ℕ)
       → dropped B (Good h) p (slotAt i st) ≡ pick (eqb (h .seq) (s .«next_seq»)) (overlong B (s .len) (length p - start)) 1

@@ -11,7 +11,6 @@ use Rattle.mctp.specs.declared.Key.{Key}
 use Rattle.mctp.specs.declared.Header.{Header}
 use Rattle.slot.specs.declared.Reassembler.{Reassembler}
 use Rattle.slot.specs.Slot.{blankSlot, isEmpty, emptyState, collects}
-use Rattle.reassemble.specs.Enter.{outcomeOf}
 use Rattle.state.specs.Stack.{slotAt}
 use Rattle.receiving.specs.Conclude.{saidOf}
 use Rattle.receiving.specs.Receive.{Receipt, receiveOf}
@@ -27,7 +26,7 @@ use Rattle.promises.proofs.Taking.{taken, pool-now, took-inv}
 
 -- ---- any receive, and any call
 
-pub takes-said : (b : Bool) (i n : ℕ) → takes (saidOf (outcomeOf b) i n) ≡ true
+pub takes-said : (b : Bool) (i n : ℕ) → takes (saidOf b i n) ≡ true
 takes-said true i n = refl
 takes-said false i n = refl
 

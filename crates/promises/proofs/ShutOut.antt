@@ -27,7 +27,7 @@ use Rattle.slot.specs.declared.State.{State}
 use Rattle.slot.specs.declared.State.the-variants.{Empty, Collecting, Done, HandleOut}
 use Rattle.slot.specs.declared.Reassembler.{Reassembler}
 use Rattle.slot.specs.Slot.{blankSlot, emptyState, outState, slotTimeout}
-use Rattle.reassemble.specs.Enter.{appended, outcomeOf}
+use Rattle.reassemble.specs.Enter.{appended}
 use Rattle.fragment.specs.declared.Fragmenter.{Fragmenter}
 use Rattle.fragment.specs.Cutting.{bodyIn}
 use Rattle.fragment.specs.Step.{Step, packetFor, emitted, stepOf}
@@ -86,7 +86,7 @@ writes f payload n d r u =
     (pick-false (f .done) _ _ d ∙ pick-false (ltb n (lead (f .first))) _ _ (le-ltb n (lead (f .first)) r)
     ∙ pick-false (ltb (length payload) (f .«payload_used»)) _ (emitted f payload n) (le-ltb (length payload) (f .«payload_used») u))
 
-said-eom : (b : Bool) (i n : ℕ) (h : ReceiveHandle) → saidOf (outcomeOf b) i n ≡ Told h → b ≡ true
+said-eom : (b : Bool) (i n : ℕ) (h : ReceiveHandle) → saidOf b i n ≡ Told h → b ≡ true
 said-eom true i n h e = refl
 said-eom false i n h e = let z : false ≡ true = cc in z
 

@@ -29,14 +29,13 @@ use Rattle.mctp.specs.Header.{headerOf}
 use Rattle.slot.specs.declared.State.{State}
 use Rattle.slot.specs.declared.State.the-variants.{Empty, Collecting, Done, HandleOut}
 use Rattle.slot.specs.declared.Reassembler.{Reassembler}
-use Rattle.reassemble.specs.declared.Outcome as entered
-use Rattle.reassemble.specs.declared.Outcome.the-variants.{More as Going, Whole, Freed}
 use Rattle.reassemble.specs.declared.Entry.{Entry}
+use Rattle.reassemble.specs.declared.Entry.the-variants.{Frees, Takes}
 use Rattle.reassemble.specs.declared.Gate.{Gate}
 use Rattle.reassemble.specs.declared.Gate.the-variants.{Shut, Pass}
 use Rattle.slot.specs.Slot.{blankSlot, outState, issueIs, handleIs, keptUnder, listed, fadedSlot, withState, withSlotCookie}
 use Rattle.slot.specs.Search.{slotFor, earliest}
-use Rattle.reassemble.specs.Enter.{enter, appended, outcomeOf}
+use Rattle.reassemble.specs.Enter.{enter, appended}
 use Rattle.fragment.specs.Cutting.{bodyIn}
 use Rattle.stamp.specs.Stamp.{next, clocked}
 use Rattle.state.specs.Stack.{Stack, slotAt, withSlot, ticked, withStamp}
@@ -216,22 +215,22 @@ pub record Counted (n : ℕ) (r : Receipt) : Type 0 where
   pub count : n ≤ r .stack .head .issue
   pub next : (h : ReceiveHandle) → r .said ≡ Told h → (h .issue ≡ nextIssue n) × (r .stack .head .issue ≡ nextIssue n)
 
-after-grows : (o : entered.Outcome) (n : ℕ) → n ≤ issueAfter o n
-after-grows Going n = le-refl n
-after-grows Whole n = next-grows n
-after-grows (Freed err) n = le-refl n
+after-grows : (whole : Bool) (n : ℕ) → n ≤ issueAfter whole n
+after-grows true n = next-grows n
+after-grows false n = le-refl n
 
-told-next : (o : entered.Outcome) (i n : ℕ) (h : ReceiveHandle) → saidOf o i (nextIssue n) ≡ Told h → (h .issue ≡ nextIssue n) × (issueAfter o n ≡ nextIssue n)
-told-next Going i n h e = (cc, cc)
-told-next Whole i n h e = let z : record { index = i; issue = nextIssue n } ≡ h = cc in (ap (λ (x : ReceiveHandle). x .issue) (sym z), refl)
-told-next (Freed err) i n h e = (cc, cc)
+told-next : (whole : Bool) (i n : ℕ) (h : ReceiveHandle) → saidOf whole i (nextIssue n) ≡ Told h
+    → (h .issue ≡ nextIssue n) × (issueAfter whole n ≡ nextIssue n)
+told-next true i n h e = let z : record { index = i; issue = nextIssue n } ≡ h = cc in (ap (λ (x : ReceiveHandle). x .issue) (sym z), refl)
+told-next false i n h e = (cc, cc)
 
 refused : (err : Error) (st : Stack) → Counted (st .head .issue) (refuse err st)
-refused err st = record { count = le-refl (st .head .issue); next = told-next (Freed err) 0 (st .head .issue) }
+refused err st = record { count = le-refl (st .head .issue); next = λ h e. (cc, cc) }
 
 module _ (B : ℕ) (st : Stack) (p : List ℕ) where
   settled-counted : (i : ℕ) (st₁ : Stack) (k : Key) (e : Entry) → Counted (st₁ .head .issue) (settled B i st₁ k p e)
-  settled-counted i st₁ k e = record { count = after-grows (e .outcome) (st₁ .head .issue); next = told-next (e .outcome) i (st₁ .head .issue) }
+  settled-counted i st₁ k (Frees err) = refused err (withSlot i blankSlot st₁)
+  settled-counted i st₁ k (Takes t) = record { count = after-grows (t .whole) (st₁ .head .issue); next = told-next (t .whole) i (st₁ .head .issue) }
 
   land-counted : (i : ℕ) (st₁ : Stack) (h : Header) (g : Gate) → Counted (st₁ .head .issue) (land B i st₁ h p g)
   unfolding land
@@ -255,7 +254,7 @@ module _ (B : ℕ) (st : Stack) (p : List ℕ) where
 
   -- the slot that takes a packet: still collecting, or with the told handle out
   taken-next : (r : Receipt) (i : ℕ) (h : Header) (t : Took B st p r i h) → Counted (st .head .issue) r
-      → (eom : Bool) → r .said ≡ saidOf (outcomeOf eom) i (t .issue)
+      → (eom : Bool) → r .said ≡ saidOf eom i (t .issue)
       → Renumbered (st .head .issue) (slotAt i st .state) (appended eom (t .now) (t .issue) (length (bodyIn p)) (t .base) .state)
   unfolding pick
   taken-next r i h t c true e = fresh (ap HandleOut (c .next (record { index = i; issue = t .issue }) e .0))

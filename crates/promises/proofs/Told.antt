@@ -13,7 +13,6 @@ use Rattle.mctp.specs.declared.HeaderRead.the-variants.{Good, Bad}
 use Rattle.mctp.specs.Header.{headerOf}
 use Rattle.slot.specs.declared.Reassembler.{Reassembler}
 use Rattle.slot.specs.Slot.{isEmpty}
-use Rattle.reassemble.specs.Enter.{outcomeOf}
 use Rattle.state.specs.Stack.{Stack}
 use Rattle.mctp.specs.Answer.{gives}
 use Rattle.slot.specs.declared.ReceiveHandle.{ReceiveHandle}
@@ -35,7 +34,7 @@ use Rattle.promises.proofs.Taking.{taken, pool-now, slot-now, own, here
 use Rattle.promises.proofs.Runs.{after, log, took-log, took-pool, steps-inv, fresh-inv}
 
 -- the handle is of the slot that took the packet
-pub index-is : (b : Bool) (i n : ℕ) (h : ReceiveHandle) → saidOf (outcomeOf b) i n ≡ Handed h → i ≡ h .index
+pub index-is : (b : Bool) (i n : ℕ) (h : ReceiveHandle) → saidOf b i n ≡ Handed h → i ≡ h .index
 index-is true i n h e = let z : record { index = i; issue = n } ≡ h = cc in ap (λ (x : ReceiveHandle). x .index) z
 index-is false i n h e = let z : i ≡ h .index = cc in z
 

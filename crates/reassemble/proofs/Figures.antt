@@ -2,7 +2,7 @@
 -- Each holds by computation.
 use Prim.Native.Nat.{ℕ}
 use mathlib.Core.Path.{_≡_, refl}
-use mathlib.Core.Bool.{true, false}
+use mathlib.Core.Bool.{Bool, true, false}
 use mathlib.Core.List.{List, [], _∷_}
 use lib.ListN.{replicate}
 use Rattle.octets.specs.Pick.{pick}
@@ -17,10 +17,11 @@ use Rattle.stamp.specs.Stamp.{timeoutOf, expired}
 use Rattle.slot.specs.declared.State.{State}
 use Rattle.slot.specs.declared.State.the-variants.{Collecting, Done, HandleOut}
 use Rattle.slot.specs.declared.Reassembler.{Reassembler}
-use Rattle.reassemble.specs.declared.Outcome.the-variants.{Whole, Freed}
+use Rattle.reassemble.specs.declared.Taken.{Taken}
 use Rattle.reassemble.specs.declared.Entry.{Entry}
-use Rattle.slot.specs.Slot.{blankSlot, withState, slotTimeout}
-use Rattle.reassemble.specs.Enter.{enter, append, opened, freed}
+use Rattle.reassemble.specs.declared.Entry.the-variants.{Frees, Takes}
+use Rattle.slot.specs.Slot.{withState, slotTimeout}
+use Rattle.reassemble.specs.Enter.{enter, append, opened}
 
 -- the event's stamp
 abbrev at100 : EventStamp
@@ -29,7 +30,7 @@ at100 = record { clock = 100; counter = 1 }
 -- a packet comes to the slot that its header opens; a handle that goes out has number 7
 abbrev enteredBy : HeaderRead → List ℕ → Entry
 enteredBy (Good h) p = enter 1032 at100 7 (opened h Absent) h p
-enteredBy Bad p = freed InvalidInput p
+enteredBy Bad p = Frees InvalidInput
 
 abbrev entered : List ℕ → Entry
 entered p = enteredBy (headerOf p) p
@@ -38,7 +39,8 @@ abbrev one : List ℕ
 one = 0x01 ∷ 0x08 ∷ 0x09 ∷ 0xC9 ∷ 0x01 ∷ 0x2A ∷ []
 
 -- from 9 to 8 under tag 1, type 1, no IC: one byte, the packet's last, goes to the body's start
-one-whole : entered one ≡ record {
+abbrev oneWhole : Taken
+oneWhole = record {
   slot = record {
     state = HandleOut 7;
     key = record { source = record { 0 = 9 }; dest = record { 0 = 8 }; owner = true; tag = record { 0 = 1 } };
@@ -51,8 +53,10 @@ one-whole : entered one ≡ record {
   };
   at = 0;
   from = 5;
-  outcome = Whole;
+  whole = true;
 }
+
+one-whole : entered one ≡ Takes oneWhole
 unfolding pick headerOf enter append
 one-whole = refl
 
@@ -60,37 +64,38 @@ one-whole = refl
 abbrev body : ℕ → List ℕ
 body n = 0x01 ∷ 0x08 ∷ 0x09 ∷ 0xC8 ∷ 0x01 ∷ replicate n 7
 
-body-1032 : entered (body 1032) .outcome ≡ Whole
+-- whether the message ends with it, and the length that it then has
+abbrev ended : Entry → Bool × ℕ
+ended (Frees err) = (false, 0)
+ended (Takes t) = (t .whole, t .slot .len)
+
+body-1032 : ended (entered (body 1032)) ≡ (true, 1032)
 unfolding pick headerOf enter append
 body-1032 = refl
 
-body-1032-len : entered (body 1032) .slot .len ≡ 1032
-unfolding pick headerOf enter append
-body-1032-len = refl
-
-body-1033 : entered (body 1033) ≡ record { slot = blankSlot; at = 0; from = 1038; outcome = Freed NoSpace }
+body-1033 : entered (body 1033) ≡ Frees NoSpace
 unfolding pick headerOf enter append
 body-1033 = refl
 
 -- SOM with 4 bytes only
-short-som : entered (0x01 ∷ 0x08 ∷ 0x09 ∷ 0xC8 ∷ []) ≡ record { slot = blankSlot; at = 0; from = 4; outcome = Freed InvalidInput }
+short-som : entered (0x01 ∷ 0x08 ∷ 0x09 ∷ 0xC8 ∷ []) ≡ Frees InvalidInput
 unfolding pick headerOf enter append
 short-som = refl
 
--- a slot stamped at 100
+-- that slot, stamped at 100
 abbrev stamped : State → Reassembler
-stamped state = withState state (entered one .slot)
+stamped state = withState state (oneWhole .slot)
 
 last-moment : slotTimeout 6100 (stamped Collecting) ≡ Left 0
-unfolding pick headerOf enter append timeoutOf expired
+unfolding pick timeoutOf expired
 last-moment = refl
 
 too-late : slotTimeout 6101 (stamped Collecting) ≡ Expired
-unfolding pick headerOf enter append timeoutOf expired
+unfolding pick timeoutOf expired
 too-late = refl
 
 done-too-late : slotTimeout 6101 (stamped Done) ≡ Expired
-unfolding pick headerOf enter append timeoutOf expired
+unfolding pick timeoutOf expired
 done-too-late = refl
 
 handle-out : slotTimeout 6101 (stamped (HandleOut 7)) ≡ Untimed

@@ -1,5 +1,5 @@
 -- docs/RULES.md 40 to 51: what a packet makes of one slot. B is the most that a body holds; `now` is the event's stamp; `issue` is the
--- number of a handle that goes out. The plan says which bytes of the packet go where in the slot's body; a refusal moves none and frees the slot.
+-- number of a handle that goes out. A packet frees the slot, or the slot takes it: then its plan says which of its bytes go where in the body.
 -- Leans on `mctp` for the header and the refusals.
 use Prim.Native.Nat.{ℕ, _+_, _-_, _%_, _≤_}
 use mathlib.Core.Bool.{Bool, true, false}
@@ -13,7 +13,6 @@ use Rattle.mctp.specs.declared.Cookie.the-variants.{Absent}
 use Rattle.mctp.specs.declared.Header.{Header}
 use Rattle.mctp.specs.declared.HeaderRead.{HeaderRead}
 use Rattle.mctp.specs.declared.HeaderRead.the-variants.{Good, Bad}
-use Rattle.mctp.specs.declared.Error.{Error}
 use Rattle.mctp.specs.declared.Error.the-variants.{InvalidInput, NoSpace, Unreachable}
 use Rattle.mctp.specs.Terms.{sameEid, nullEid, anyEid}
 use Rattle.mctp.specs.Header.{headerOf, typeOf}
@@ -22,10 +21,10 @@ use Rattle.slot.specs.declared.State.the-variants.{Collecting, HandleOut}
 use Rattle.slot.specs.declared.Reassembler.{Reassembler}
 use Rattle.reassemble.specs.declared.Gate.{Gate}
 use Rattle.reassemble.specs.declared.Gate.the-variants.{Shut, Pass}
-use Rattle.reassemble.specs.declared.Outcome.{Outcome}
-use Rattle.reassemble.specs.declared.Outcome.the-variants.{More, Whole, Freed}
+use Rattle.reassemble.specs.declared.Taken.{Taken}
 use Rattle.reassemble.specs.declared.Entry.{Entry}
-use Rattle.slot.specs.Slot.{blankSlot, isEmpty}
+use Rattle.reassemble.specs.declared.Entry.the-variants.{Frees, Takes}
+use Rattle.slot.specs.Slot.{isEmpty}
 
 -- destination own or 0
 unfoldable pub isLocal : Eid → Eid → Bool
@@ -69,10 +68,6 @@ gateEmpty own h stands cookie =
 unfoldable pub gate : Eid → Reassembler → Header → Bool → Cookie → Gate
 gate own s h stands cookie = pick (isEmpty s) (gateEmpty own h stands cookie) (Pass s)
 
--- nothing of the packet is kept, and the slot is empty
-abbrev pub freed : Error → List ℕ → Entry
-freed err p = record { slot = blankSlot; at = 0; from = length p; outcome = Freed err }
-
 -- rule 46: SOM sets type, IC and the sequence to expect, empties the body, stamps the slot
 abbrev pub begun : EventStamp → Header → ℕ → Reassembler → Reassembler
 begun now h kind s = record {
@@ -93,25 +88,21 @@ appended eom now issue n s =
     (record { state = HandleOut issue; key = s .key; typ = s .typ; ic = s .ic; «next_seq» = (s .«next_seq» % 4 + 1) % 4; len = s .len + n; cookie = s .cookie; stamp = now })
     (record { state = s .state; key = s .key; typ = s .typ; ic = s .ic; «next_seq» = (s .«next_seq» % 4 + 1) % 4; len = s .len + n; cookie = s .cookie; stamp = s .stamp })
 
-abbrev pub outcomeOf : Bool → Outcome
-outcomeOf true = Whole
-outcomeOf false = More
-
 -- rules 47 to 50, the body starting at `start`: wrong sequence: InvalidInput, slot freed. Body above B: NoSpace, slot freed. Else appended
 unfoldable pub append : ℕ → EventStamp → ℕ → Reassembler → Header → List ℕ → ℕ → Entry
 append B now issue s h p start =
     pick (eqb (h .seq) (s .«next_seq»))
-    (pick (ltb B (s .len + (length p - start))) (freed NoSpace p)
-    (record { slot = appended (h .eom) now issue (length p - start) s; at = s .len; from = start; outcome = outcomeOf (h .eom) }))
-    (freed InvalidInput p)
+    (pick (ltb B (s .len + (length p - start))) (Frees NoSpace)
+    (Takes (record { slot = appended (h .eom) now issue (length p - start) s; at = s .len; from = start; whole = h .eom })))
+    (Frees InvalidInput)
 
 -- rules 44 and 45: SOM with 4 bytes only: InvalidInput, slot freed. Then rules 46 to 50
 unfoldable pub enter : ℕ → EventStamp → ℕ → Reassembler → Header → List ℕ → Entry
 enter B now issue s h p =
-    pick (h .som) (pick (ltb (length p) 5) (freed InvalidInput p) (append B now issue (begun now h (getD p 4 0) s) h p 5))
+    pick (h .som) (pick (ltb (length p) 5) (Frees InvalidInput) (append B now issue (begun now h (getD p 4 0) s) h p 5))
     (append B now issue s h p 4)
 
 -- the plan's bytes are the packet's, and fit the body
-pub record Planned (e : Entry) (size B : ℕ) : Type 0 where
-  pub within : e .from ≤ size
-  pub fits : e .at + (size - e .from) ≤ B
+pub record Planned (t : Taken) (size B : ℕ) : Type 0 where
+  pub within : t .from ≤ size
+  pub fits : t .at + (size - t .from) ≤ B

@@ -5,7 +5,9 @@ ghost use mathlib.Core.Path.{_≡_};
 ghost use Prim.Native.Nat.{_+_, _-_, _≤_, _<_, _^_};
 ghost use lib.Dec.{ltb};
 ghost use lib.ListN.{length};
-ghost use Rattle.reassemble.specs.Enter.{isLocal, localPacket, opening, opened, gateEmpty, gateReply, freed, begun, appended, append, enter, outcomeOf, Planned};
+ghost use Rattle.reassemble.specs.Enter.{isLocal, localPacket, opening, opened, gateReply, begun, appended, append, enter, Planned};
+ghost use Rattle.reassemble.specs.declared.Taken.{Taken};
+ghost use Rattle.reassemble.specs.declared.Entry.the-variants.{Takes};
 use mctp::Cookie;
 use mctp::Eid;
 use mctp::Error;
@@ -23,18 +25,18 @@ pub enum Gate {
     Pass(Reassembler),
 }
 
-pub enum Outcome {
-    More,
-    Whole,
-    Freed(Error),
+// What a packet makes of a slot: it frees it, or the slot takes the packet's bytes.
+pub enum Entry {
+    Frees(Error),
+    Takes(Taken),
 }
 
-// What a packet makes of a slot: its next record, and where in its body the packet's bytes from `from` go.
-pub struct Entry {
+// The slot's next record, and where in its body the packet's bytes from `from` on go; `whole`: the message ends with this packet.
+pub struct Taken {
     pub slot: Reassembler,
     pub at: usize,
     pub from: usize,
-    pub outcome: Outcome,
+    pub whole: bool,
 }
 
 // Destination own or 0.
@@ -101,18 +103,6 @@ pub fn gate_reply(h: Header, stands: bool, cookie: Cookie) -> Gate
         return Gate::Pass(open(h, cookie));
     }
     Gate::Shut(Error::Unreachable)
-}
-
-fn freed_by(err: Error, packet: &[u8]) -> Entry
-    ensures { λ r. ⌜ r ≡ freed err (now (packet .entry)) ⌝ }
-{
-    let slot = slot::blank();
-    Entry {
-        slot: slot,
-        at: 0,
-        from: packet.len(),
-        outcome: Outcome::Freed(err),
-    }
 }
 
 // Rule 46: SOM sets type, IC and the sequence to expect, empties the body, stamps the slot. The cookie stays.
@@ -208,31 +198,21 @@ fn accept(
     ensures { λ r. ⌜ r ≡ append most stamp issue s h (now (packet .entry)) start ⌝ }
 {
     if h.seq != s.next_seq {
-        return freed_by(Error::InvalidInput, packet);
+        return Entry::Frees(Error::InvalidInput);
     }
     let n = left_from(packet, start);
     let len = s.len;
     let over = overfills(len, n, most);
     if over {
-        return freed_by(Error::NoSpace, packet);
+        return Entry::Frees(Error::NoSpace);
     }
     let slot = grow(s, h.eom, stamp, issue, n);
-    let outcome = outcome_of(h.eom);
-    Entry {
+    Entry::Takes(Taken {
         slot: slot,
         at: len,
         from: start,
-        outcome: outcome,
-    }
-}
-
-fn outcome_of(eom: bool) -> Outcome
-    ensures { λ r. ⌜ r ≡ outcomeOf eom ⌝ }
-{
-    if eom {
-        return Outcome::Whole;
-    }
-    Outcome::More
+        whole: h.eom,
+    })
 }
 
 // Steps 3 to 6: what a packet with that header makes of a slot.
@@ -245,11 +225,11 @@ pub fn receive(
     most: usize,
 ) -> Entry
     ensures { λ r. ⌜ r ≡ enter most stamp issue s h (now (packet .entry)) ⌝ }
-    ensures planned { λ r. ⌜ ((4 ≤ length (now (packet .entry))) → (s .len ≤ most) → Planned r (length (now (packet .entry))) most) ⌝ }
+    ensures planned { λ r. ⌜ ((4 ≤ length (now (packet .entry))) → (s .len ≤ most) → (t : Taken) → r ≡ Takes t → Planned t (length (now (packet .entry))) most) ⌝ }
 {
     if h.som {
         if packet.len() < 5 {
-            return freed_by(Error::InvalidInput, packet);
+            return Entry::Frees(Error::InvalidInput);
         }
         let begun = begin(s, h, packet[4], stamp);
         return accept(begun, h, packet, 5, stamp, issue, most);

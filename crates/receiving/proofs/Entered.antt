@@ -27,14 +27,16 @@ use Rattle.slot.specs.declared.State.{State}
 use Rattle.slot.specs.declared.State.the-variants.{HandleOut}
 use Rattle.slot.specs.declared.Reassembler.{Reassembler}
 use Rattle.reassemble.specs.declared.Entry.{Entry}
+use Rattle.reassemble.specs.declared.Entry.the-variants.{Takes}
+use Rattle.reassemble.specs.declared.Taken.{Taken}
 use Rattle.reassemble.specs.declared.Gate.{Gate}
 use Rattle.reassemble.specs.declared.Gate.the-variants.{Shut, Pass}
 use Rattle.reassemble.specs.Enter.{enter, append, appended, begun, opened, gateEmpty, gateReply}
+use Rattle.reassemble.proofs.Entries.{OfTaken}
 use Rattle.state.specs.declared.Sizes.{Sizes}
 use Rattle.state.specs.Slot.{SlotOk, issueNo}
 use Rattle.state.specs.Stack.{Stack, Kept, Becomes, stackOf, ticked}
 use Rattle.state.proofs.StackLaws.{flow-ok, head-ok}
-use Rattle.slot_walks.proofs.SlotChecks.{blank-ok}
 
 -- bytes that fit slot i's body fit the pool
 pub in-pool : (B i n at len : ℕ) → i < n → at + len ≤ B → B * i + at + len ≤ B * n
@@ -95,14 +97,16 @@ module _ (B : ℕ) (now : EventStamp) (issue : ℕ) (h : Header) (p : List ℕ) 
       (λ _. grown-ok n t (HandleOut issue) now ok l fits stamp)
       (λ _. grown-ok n t (t .state) (t .stamp) ok l (ok .issue) (record { counter = ok .counter; clock = ok .clock }))
 
-  append-ok : (t : Reassembler) (start : ℕ) → SlotOk B t → SlotOk B (append B now issue t h p start .slot)
-  unfolding append
+  -- what is taken has the ranges of a slot
+  EntryOk : Entry → Type 0
+  EntryOk = OfTaken (λ (t : Taken). SlotOk B (t .slot))
+
+  append-ok : (t : Reassembler) (start : ℕ) → SlotOk B t → EntryOk (append B now issue t h p start)
+  unfolding append EntryOk
   append-ok t start ok =
-      pick-cases (λ (e : Entry). SlotOk B (e .slot))
-      (λ _. pick-cases (λ (e : Entry). SlotOk B (e .slot))
-      (λ _. blank-ok B)
-      (λ e. appended-ok (h .eom) (length p - start) t ok (ltb-false B (t .len + (length p - start)) e)))
-      (λ _. blank-ok B)
+      pick-cases EntryOk
+      (λ _. pick-cases EntryOk (λ _. tt) (λ e. appended-ok (h .eom) (length p - start) t ok (ltb-false B (t .len + (length p - start)) e)))
+      (λ _. tt)
 
   begun-ok : (kind : ℕ) (s : Reassembler) → h .seq < 4 → SlotOk B s → SlotOk B (begun now h kind s)
   begun-ok kind s q ok = record {
@@ -120,14 +124,13 @@ module _ (B : ℕ) (now : EventStamp) (issue : ℕ) (h : Header) (p : List ℕ) 
   }
 
   -- the next slot has the ranges of a slot
-  pub entered-ok : (s : Reassembler) → h .seq < 4 → SlotOk B s → SlotOk B (enter B now issue s h p .slot)
-  unfolding enter
-  entered-ok s q ok =
-      pick-cases (λ (e : Entry). SlotOk B (e .slot))
-      (λ _. pick-cases (λ (e : Entry). SlotOk B (e .slot))
-      (λ _. blank-ok B)
-      (λ _. append-ok (begun now h (getD p 4 0) s) 5 (begun-ok (getD p 4 0) s q ok)))
-      (λ _. append-ok s 4 ok)
+  pub entered-ok : (s : Reassembler) → h .seq < 4 → SlotOk B s → (t : Taken) → enter B now issue s h p ≡ Takes t → SlotOk B (t .slot)
+  unfolding enter EntryOk
+  entered-ok s q ok t e =
+      subst EntryOk e
+      (pick-cases EntryOk
+      (λ _. pick-cases EntryOk (λ _. tt) (λ _. append-ok (begun now h (getD p 4 0) s) 5 (begun-ok (getD p 4 0) s q ok)))
+      (λ _. append-ok s 4 ok))
 
 -- a slot that passes has its ranges
 abbrev GateOk : ℕ → Gate → Type 0

@@ -11,10 +11,10 @@ use Rattle.octets.proofs.Bools.{false-true}
 use Rattle.mctp.specs.declared.Header.{Header}
 use Rattle.stamp.specs.declared.EventStamp.{EventStamp}
 use Rattle.slot.specs.declared.Reassembler.{Reassembler}
-use Rattle.reassemble.specs.declared.Outcome.the-variants.{More as Going}
 use Rattle.reassemble.specs.declared.Entry.{Entry}
+use Rattle.reassemble.specs.declared.Entry.the-variants.{Takes}
 use Rattle.reassemble.specs.declared.Gate.the-variants.{Pass}
-use Rattle.reassemble.specs.Enter.{enter, append, appended, outcomeOf}
+use Rattle.reassemble.specs.Enter.{enter, append, appended}
 use Rattle.state.specs.declared.Progress.{Progress}
 use Rattle.state.specs.Slot.{progress, progressOf}
 use Rattle.state.specs.Stack.{Stack, ticked}
@@ -41,11 +41,11 @@ goes-room h g n B l e = let r = goes h g n B e .room in omega arith
 
 -- what such a packet makes of a slot that held len bytes
 abbrev pub grown : List ℕ → Reassembler → ℕ → ℕ → Entry
-grown p s seq len = record { slot = progress ((seq % 4 + 1) % 4) (len + (length p - 4)) s; at = len; from = 4; outcome = Going }
+grown p s seq len = Takes (record { slot = progress ((seq % 4 + 1) % 4) (len + (length p - 4)) s; at = len; from = 4; whole = false })
 
 module _ (B : ℕ) (h : Header) (p : List ℕ) (s : Reassembler) where
   abbrev taken : EventStamp → ℕ → Bool → Entry
-  taken now issue eom = record { slot = appended eom now issue (length p - 4) s; at = s .len; from = 4; outcome = outcomeOf eom }
+  taken now issue eom = Takes (record { slot = appended eom now issue (length p - 4) s; at = s .len; from = 4; whole = eom })
 
   entry : (now : EventStamp) (issue : ℕ) → s .len ≤ B → isMiddle h (progressOf s) (length p - 4) B ≡ true → enter B now issue s h p ≡ grown p s (h .seq) (s .len)
   unfolding enter append pick

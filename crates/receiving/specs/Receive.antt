@@ -1,6 +1,6 @@
 -- docs/RULES.md 38 to 51, receive: PoolShort first; then the slot, NoSpace before any look at the header; then rules 40 to 51. B is the most that a
 -- body holds; slot i keeps its body from byte B i of the pool. The answer holds the stack after the call, what is said, and the one write to the pool.
--- Leans on `reassemble` for one slot's part, on `flows` for the reply's flow, on `receiving` for what an outcome says.
+-- Leans on `reassemble` for one slot's part, on `flows` for the reply's flow, on `state` for the stack.
 use Prim.Native.Nat.{ℕ, _+_, _-_, _*_}
 use mathlib.Core.Path.{_≡_}
 use mathlib.Core.Bool.{Bool, false}
@@ -18,9 +18,10 @@ use Rattle.mctp.specs.declared.Error.the-variants.{InvalidInput, NoSpace, PoolS
 use Rattle.mctp.specs.Header.{headerOf}
 use Rattle.flows.specs.Table.{standing, flowCookie}
 use Rattle.reassemble.specs.declared.Entry.{Entry}
+use Rattle.reassemble.specs.declared.Entry.the-variants.{Frees, Takes}
 use Rattle.reassemble.specs.declared.Gate.{Gate}
 use Rattle.reassemble.specs.declared.Gate.the-variants.{Shut, Pass}
-use Rattle.slot.specs.Slot.{isEmpty}
+use Rattle.slot.specs.Slot.{blankSlot, isEmpty}
 use Rattle.slot.specs.Search.{slotFor}
 use Rattle.reassemble.specs.Enter.{gate, enter}
 use Rattle.state.specs.declared.Progress.{Progress}
@@ -41,13 +42,14 @@ pub record Receipt : Type 0 where
 abbrev pub refuse : Error → Stack → Receipt
 refuse err st = record { stack = st; said = Refused err; at = 0; bytes = [] }
 
--- one store of one slot, one write to the pool, then the flow
+-- one store of one slot; where it takes the packet, one write to the pool, then the flow
 abbrev pub settled : ℕ → ℕ → Stack → Key → List ℕ → Entry → Receipt
-settled B i st k p e = record {
-  stack = concluded (e .outcome) k (withSlot i (e .slot) st);
-  said = saidOf (e .outcome) i (nextIssue (st .head .issue));
-  at = B * i + e .at;
-  bytes = drop (e .from) p;
+settled B i st k p (Frees err) = refuse err (withSlot i blankSlot st)
+settled B i st k p (Takes t) = record {
+  stack = concluded (t .whole) k (withSlot i (t .slot) st);
+  said = saidOf (t .whole) i (nextIssue (st .head .issue));
+  at = B * i + t .at;
+  bytes = drop (t .from) p;
 }
 
 -- rules 44 and 45: one event is counted, and the packet enters the slot

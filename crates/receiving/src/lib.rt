@@ -1,4 +1,4 @@
-// Receive, docs/RULES.md 38 to 51, over the whole stack. Find the slot, gate, enter, settle: one store of one slot, one write to the pool, then the flow.
+// Receive, docs/RULES.md 38 to 51, over the whole stack. Find the slot, gate, enter; then one store of one slot and, where the slot takes the packet, one write to the pool.
 // A middle packet goes a short way: of its slot the sequence and the length alone are read and stored. Definitions: specs/Receive.antt, specs/Conclude.antt.
 // Leans on `state` for the layout, on `slot_walks` and `flow_walks` for searches, on `reassemble` for one slot's part.
 ghost use mathlib.Core.Path.{_≡_};
@@ -7,7 +7,7 @@ ghost use lib.ListN.{length};
 ghost use mathlib.Core.Bool.{true};
 ghost use Rattle.mctp.specs.declared.HeaderRead.the-variants.{Good, Bad};
 ghost use Rattle.reassemble.specs.declared.Gate.the-variants.{Pass};
-ghost use Rattle.reassemble.specs.declared.Outcome.the-variants.{Whole};
+ghost use Rattle.reassemble.specs.declared.Entry.the-variants.{Takes};
 ghost use Rattle.slot.specs.Handle.{nextIssue};
 ghost use Rattle.state.specs.Stack.{withFlows, Kept, Becomes, stackOf, slotAt};
 ghost use Rattle.receiving.specs.Conclude.{concluded, saidOf, flowsAfter};
@@ -23,7 +23,7 @@ use mctp::HeaderRead;
 use mctp::Key;
 use reassemble::Entry;
 use reassemble::Gate;
-use reassemble::Outcome;
+use reassemble::Taken;
 use slot::Reassembler;
 use slot::ReceiveHandle;
 use state::Progress;
@@ -211,11 +211,16 @@ fn feed(
 {
     let stamp = state::tick(state, sizes);
     let issue = slot::next_issue(state::issue_at(state, sizes));
-    let e = reassemble::receive(s, h, packet, stamp, issue, sizes.body);
-    settle(state, sizes, pool, packet, h.key, i, e)
+    match reassemble::receive(s, h, packet, stamp, issue, sizes.body) {
+        Entry::Frees(err) => {
+            state::put_slot(state, sizes, i, slot::blank());
+            Received::Refused(err)
+        }
+        Entry::Takes(t) => settle(state, sizes, pool, packet, h.key, i, t),
+    }
 }
 
-// One store of one slot, one write to the pool, then the flow.
+// Slot i takes a packet: one store of the slot, one write to the pool, then the flow.
 fn settle(
     state: &mut [u8],
     sizes: Sizes,
@@ -223,17 +228,17 @@ fn settle(
     packet: &[u8],
     key: Key,
     i: usize,
-    e: Entry,
+    t: Taken,
 ) -> Received
-    requires { ⌜ Kept sizes (now state) × (i < sizes .slots) × (sizes .body * sizes .slots ≤ length (now pool)) × Planned e (length (now packet)) (sizes .body) × SlotOk (sizes .body) (e .slot) ⌝ }
-    ensures { λ r. ⌜ Makes sizes (settled (sizes .body) i (stackOf sizes (now (state .entry))) key (now (packet .entry)) e) r (now (state .entry)) (now (state .exit)) (now (pool .entry)) (now (pool .exit)) ⌝ }
+    requires { ⌜ Kept sizes (now state) × (i < sizes .slots) × (sizes .body * sizes .slots ≤ length (now pool)) × Planned t (length (now packet)) (sizes .body) × SlotOk (sizes .body) (t .slot) ⌝ }
+    ensures { λ r. ⌜ Makes sizes (settled (sizes .body) i (stackOf sizes (now (state .entry))) key (now (packet .entry)) (Takes t)) r (now (state .entry)) (now (state .exit)) (now (pool .entry)) (now (pool .exit)) ⌝ }
 {
-    let slot = e.slot;
+    let slot = t.slot;
     state::put_slot(state, sizes, i, slot);
-    let outcome = e.outcome;
-    let said = conclude(state, sizes, key, i, outcome);
-    let at = sizes.body * i + e.at;
-    let from = e.from;
+    let whole = t.whole;
+    let said = conclude(state, sizes, key, i, whole);
+    let at = sizes.body * i + t.at;
+    let from = t.from;
     copying::copy(&mut pool[at..], &packet[from..]);
     said
 }
@@ -243,7 +248,7 @@ fn settle(
 // A reply that is whole ends its flow.
 fn close(state: &mut [u8], sizes: Sizes, key: Key)
     requires { ⌜ Kept sizes (now state) ⌝ }
-    ensures { λ _. ⌜ Becomes sizes (now (state .entry)) (now (state .exit)) (withFlows (flowsAfter Whole key (stackOf sizes (now (state .entry)) .flows)) (stackOf sizes (now (state .entry)))) ⌝ }
+    ensures { λ _. ⌜ Becomes sizes (now (state .entry)) (now (state .exit)) (withFlows (flowsAfter true key (stackOf sizes (now (state .entry)) .flows)) (stackOf sizes (now (state .entry)))) ⌝ }
 {
     if key.owner {
         return;
@@ -251,22 +256,19 @@ fn close(state: &mut [u8], sizes: Sizes, key: Key)
     flow_walks::remove_flow(state, sizes, key.source, key.tag);
 }
 
-// What is said of slot i's packet, and with a whole message its handle's number and its flow's end.
-pub fn conclude(state: &mut [u8], sizes: Sizes, key: Key, i: usize, outcome: Outcome) -> Received
+// What is said of a packet that slot i takes, and with a whole message its handle's number and its flow's end.
+pub fn conclude(state: &mut [u8], sizes: Sizes, key: Key, i: usize, whole: bool) -> Received
     requires { ⌜ Kept sizes (now state) ⌝ }
-    ensures { λ r. ⌜ (r ≡ saidOf outcome i (nextIssue (stackOf sizes (now (state .entry)) .head .issue))) × Becomes sizes (now (state .entry)) (now (state .exit)) (concluded outcome key (stackOf sizes (now (state .entry)))) ⌝ }
+    ensures { λ r. ⌜ (r ≡ saidOf whole i (nextIssue (stackOf sizes (now (state .entry)) .head .issue))) × Becomes sizes (now (state .entry)) (now (state .exit)) (concluded whole key (stackOf sizes (now (state .entry)))) ⌝ }
 {
-    match outcome {
-        Outcome::More => Received::More,
-        Outcome::Whole => {
-            let issue = slot::next_issue(state::issue_at(state, sizes));
-            state::put_issue(state, sizes, issue);
-            close(state, sizes, key);
-            Received::Message(ReceiveHandle {
-                index: i,
-                issue: issue,
-            })
-        }
-        Outcome::Freed(err) => Received::Refused(err),
+    if whole {
+        let issue = slot::next_issue(state::issue_at(state, sizes));
+        state::put_issue(state, sizes, issue);
+        close(state, sizes, key);
+        return Received::Message(ReceiveHandle {
+            index: i,
+            issue: issue,
+        });
     }
+    Received::More
 }

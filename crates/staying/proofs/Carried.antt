@@ -28,12 +28,11 @@ use Rattle.reassemble.specs.declared.Gate.{Gate}
 use Rattle.reassemble.specs.declared.Gate.the-variants.{Shut, Pass}
 use Rattle.reassemble.specs.Enter.{enter, appended}
 use Rattle.fragment.specs.Cutting.{bodyIn, PacketIs, InTurn, joined, kindIn, Carries}
-use Rattle.state.specs.Stack.{Stack, slotAt}
+use Rattle.state.specs.Stack.{Stack, slotAt, ticked}
 use Rattle.slot.specs.declared.ReceiveHandle.{ReceiveHandle}
 use Rattle.receiving.specs.declared.Received.the-variants.{Message as Told}
-use Rattle.slot.specs.Handle.{nextIssue, handleWords}
-use Rattle.receiving.specs.Conclude.{saidOf}
-use Rattle.receiving.specs.Receive.{Receipt, land, countedOpening, gateOf, receiveAt, receiveBy, receiveOf}
+use Rattle.slot.specs.Handle.{handleWords}
+use Rattle.receiving.specs.Receive.{Receipt, settled, land, countedOpening, gateOf, receiveAt, receiveBy, receiveOf}
 use Rattle.promises.specs.Calls.{Call, receive, elsewhere, update, startSend, cancelFlow, getDeferred, getDeferredByCookie, fetchMessage, finishedReceive, returnHandle, setCookie, setEid, eid, isLocalDest, freeTags, World, step, steps, receipt, performed, hasKey}
 use Rattle.promises.specs.Delivery.{Message, messageAt, allOf}
 use Rattle.promises.specs.History.{Taken, takes, note, noted, logged, history, lentHere, since, gathered, follows, numbered, Opens}
@@ -79,7 +78,7 @@ module _ (B : ℕ) (p : List ℕ) (h : Header) (read : headerOf p ≡ Good h) wh
       (λ n _. lead-four (h .som) (length p) n (good-long p h read))
     where
       P : Entry → Type 0
-      P e = takes (saidOf (e .outcome) i (nextIssue (st .head .issue))) ≡ true → lead (h .som) ≤ length p
+      P e = takes (settled B i (ticked st) (h .key) p e .said) ≡ true → lead (h .som) ≤ length p
 
   at-long : (i : ℕ) (st : Stack) (r : HeaderRead) → headerOf p ≡ r → Long (receiveAt B i st p r)
   unfolding receiveAt Long

@@ -31,8 +31,8 @@ use Rattle.slot.specs.declared.Reassembler.{Reassembler}
 use Rattle.slot.specs.Slot.{blankSlot, isEmpty, keptUnder, listed, withState, withSlotCookie}
 use Rattle.slot.specs.declared.State.the-variants.{Done}
 use Rattle.slot.specs.Search.{slotFor, earliest}
-use Rattle.reassemble.specs.declared.Outcome as entered
-use Rattle.reassemble.specs.declared.Outcome.the-variants.{More as Going, Whole, Freed}
+use Rattle.reassemble.specs.declared.Entry.{Entry}
+use Rattle.reassemble.specs.declared.Entry.the-variants.{Frees, Takes}
 use Rattle.reassemble.specs.declared.Gate.{Gate}
 use Rattle.reassemble.specs.declared.Gate.the-variants.{Shut, Pass}
 use Rattle.reassemble.specs.Enter.{enter}
@@ -74,18 +74,20 @@ data Flowing (l : List Flow) (p : List ℕ) (r : Receipt) : Type 0 where
   close : (h : Header) → headerOf p ≡ Good h → r .stack .flows ≡ pick (h .key .owner) l (removed (h .key .source) (h .key .tag) l) → Flowing l p r
 
 module _ (B : ℕ) (p : List ℕ) where
-  by-outcome : (l : List Flow) (h : Header) → headerOf p ≡ Good h → (o : entered.Outcome) (i n : ℕ) (r : Receipt)
-      → r .stack .flows ≡ flowsAfter o (h .key) l → r .said ≡ saidOf o i n → Flowing l p r
-  by-outcome l h read Going i n r e f = stay e (ap hands f)
-  by-outcome l h read Whole i n r e f = close h read e
-  by-outcome l h read (Freed err) i n r e f = stay e (ap hands f)
+  by-whole : (l : List Flow) (h : Header) → headerOf p ≡ Good h → (whole : Bool) (i n : ℕ) (r : Receipt)
+      → r .stack .flows ≡ flowsAfter whole (h .key) l → r .said ≡ saidOf whole i n → Flowing l p r
+  by-whole l h read true i n r e f = close h read e
+  by-whole l h read false i n r e f = stay e (ap hands f)
+
+  settled-flowing : (h : Header) → headerOf p ≡ Good h → (i : ℕ) (st : Stack) (e : Entry) → Flowing (st .flows) p (settled B i st (h .key) p e)
+  settled-flowing h read i st (Frees err) = stay refl refl
+  settled-flowing h read i st (Takes t) = by-whole (st .flows) h read (t .whole) i (nextIssue (st .head .issue)) (settled B i st (h .key) p (Takes t)) refl refl
 
   land-flowing : (h : Header) → headerOf p ≡ Good h → (i : ℕ) (st : Stack) (g : Gate) → Flowing (st .flows) p (land B i st h p g)
   unfolding land
   land-flowing h read i st (Shut err) = stay refl refl
   land-flowing h read i st (Pass s) =
-      let e = enter B (next (st .head .now)) (nextIssue (st .head .issue)) s h p in
-      by-outcome (st .flows) h read (e .outcome) i (nextIssue (st .head .issue)) (settled B i (ticked st) (h .key) p e) refl refl
+      settled-flowing h read i (ticked st) (enter B (next (st .head .now)) (nextIssue (st .head .issue)) s h p)
 
   at-flowing : (i : ℕ) (st : Stack) (r : HeaderRead) → headerOf p ≡ r → Flowing (st .flows) p (receiveAt B i st p r)
   unfolding receiveAt

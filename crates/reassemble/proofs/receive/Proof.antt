@@ -7,12 +7,9 @@ use Rattle.reassemble.proofs.Entries.{told-plan}
 use Rattle.reassemble.proofs.receive.Statement.{statement}
 use Rattle.reassemble.proofs.receive.Tie as tie
 
-freed-by-requires : tie.Need-freed-by-requires
-freed-by-requires c κs = search needs
-
 returns : tie.Need-returns
 unfolding enter
-returns c = told-plan _ _ _ _ _ (now (c .before .before .before .before .args .packet)) _ (search (picks, c .freed-by .ensures))
+returns c = told-plan _ _ _ _ _ (now (c .before .before .before .args .packet)) _ (search picks)
 
 shared-slice-read-begin : tie.Need-shared-slice-read-begin
 shared-slice-read-begin c = search needs
@@ -38,7 +35,6 @@ pub receive-spec : {M : Type 1} → statement M
 receive-spec =
     tie.close
     (tie.spec
-    freed-by-requires
     returns
     shared-slice-read-begin
     begin-requires

@@ -15,12 +15,12 @@ use Rattle.receiving.proofs.settle.Tie as tie
 
 -- where the plan's bytes go, and that they fit
 abbrev start : tie.Start → ℕ
-start s = s .args .sizes .body * s .args .i + s .args .e .at
+start s = s .args .sizes .body * s .args .i + s .args .t .at
 
-room : (s : tie.Start) → start s + (length (now (s .args .packet)) - s .args .e .from) ≤ length (now (s .args .pool))
+room : (s : tie.Start) → start s + (length (now (s .args .packet)) - s .args .t .from) ≤ length (now (s .args .pool))
 room s =
     let a = s .args in
-    let r = in-pool (a .sizes .body) (a .i) (a .sizes .slots) (a .e .at) (length (now (a .packet)) - a .e .from) (s .pre .1) (s .pre .3 .fits) in
+    let r = in-pool (a .sizes .body) (a .i) (a .sizes .slots) (a .t .at) (length (now (a .packet)) - a .t .from) (s .pre .1) (s .pre .3 .fits) in
     omega (arith, s .pre .2)
 
 put-slot-requires : tie.Need-put-slot-requires
@@ -73,9 +73,9 @@ returns c =
     let q = c .before .before .before .before .before .before .before .before .before .conclude in
     let m = c .before .before .copy in
     record {
-      said = q .ensures .0 ∙ ap (λ (x : Stack). saidOf (a .e .outcome) (a .i) (nextIssue (x .head .issue))) (p .ensures .view);
-      stack = andThen z (concluded (a .e .outcome) (a .key)) b (p .last .0) (q .last .0) (withSlot (a .i) (a .e .slot) st) (p .ensures) (q .ensures .1);
-      bytes = copied (start s) (a .e .from) (now (a .packet)) (now (a .pool)) (room s) (m .last .0) (m .ensures);
+      said = q .ensures .0 ∙ ap (λ (x : Stack). saidOf (a .t .whole) (a .i) (nextIssue (x .head .issue))) (p .ensures .view);
+      stack = andThen z (concluded (a .t .whole) (a .key)) b (p .last .0) (q .last .0) (withSlot (a .i) (a .t .slot) st) (p .ensures) (q .ensures .1);
+      bytes = copied (start s) (a .t .from) (now (a .packet)) (now (a .pool)) (room s) (m .last .0) (m .ensures);
     }
 
 pub settle-spec : {M : Type 1} → statement M
