@@ -1,8 +1,8 @@
 // Receive, docs/RULES.md 38 to 51, over the whole stack. Find the slot, gate, enter; then one store of one slot and, where the slot takes the packet, one write to the pool.
-// A middle packet goes a short way: of its slot the sequence and the length alone are read and stored. Definitions: specs/Receive.antt, specs/Conclude.antt.
+// Definitions: specs/Receive.antt, specs/Conclude.antt.
 // Leans on `state` for the layout, on `slot_walks` and `flow_walks` for searches, on `reassemble` for one slot's part.
 ghost use mathlib.Core.Path.{_≡_};
-ghost use Prim.Native.Nat.{_+_, _-_, _*_, _≤_, _<_};
+ghost use Prim.Native.Nat.{_*_, _≤_, _<_};
 ghost use lib.ListN.{length};
 ghost use mathlib.Core.Bool.{true};
 ghost use Rattle.mctp.specs.declared.HeaderRead.the-variants.{Good, Bad};
@@ -14,8 +14,8 @@ ghost use Rattle.receiving.specs.Conclude.{concluded, saidOf, flowsAfter
 ghost use Rattle.slot.specs.Slot.{isEmpty};
 ghost use Rattle.reassemble.specs.Enter.{gateEmpty, gateReply, Planned};
 ghost use Rattle.flows.specs.Table.{standing, flowCookie};
-ghost use Rattle.state.specs.Slot.{SlotOk, progressOf};
-ghost use Rattle.receiving.specs.Receive.{receiveOf, receiveBy, receiveAt, isMiddle, land, settled, Makes};
+ghost use Rattle.state.specs.Slot.{SlotOk};
+ghost use Rattle.receiving.specs.Receive.{receiveOf, receiveBy, receiveAt, land, settled, Makes};
 use mctp::Cookie;
 use mctp::Error;
 use mctp::Header;
@@ -26,8 +26,9 @@ use reassemble::Gate;
 use reassemble::Taken;
 use slot::Reassembler;
 use slot::ReceiveHandle;
-use state::Progress;
 use state::Sizes;
+
+mod middle; // middle.rt: the short way of a middle packet
 
 pub enum Received {
     More,
@@ -97,53 +98,12 @@ fn receive_collecting(
 {
     let p = state::progress_at(state, sizes, i);
     let n = packet.len() - 4;
-    let short = is_middle(h, p, n, sizes.body);
+    let short = middle::is_middle(h, p, n, sizes.body);
     if short {
-        return append_middle(state, sizes, pool, packet, h, i, p);
+        return middle::append_middle(state, sizes, pool, packet, h, i, p);
     }
     let s = state::slot_at(state, sizes, i);
     feed(state, sizes, pool, packet, h, i, s)
-}
-
-// A middle packet of n bytes: neither first nor last, in turn, with room.
-fn is_middle(h: Header, p: Progress, n: usize, body: usize) -> bool
-    requires { ⌜ p .len ≤ body ⌝ }
-    ensures { λ r. ⌜ r ≡ isMiddle h p n body ⌝ }
-{
-    if h.som {
-        return false;
-    }
-    if h.eom {
-        return false;
-    }
-    if h.seq == p.seq {
-        return n <= body - p.len;
-    }
-    false
-}
-
-// A middle packet: of its slot the sequence and the length alone change.
-fn append_middle(
-    state: &mut [u8],
-    sizes: Sizes,
-    pool: &mut [u8],
-    packet: &[u8],
-    h: Header,
-    i: usize,
-    p: Progress,
-) -> Received
-    requires { ⌜ Kept sizes (now state) × (4 ≤ length (now packet)) × (sizes .body * sizes .slots ≤ length (now pool)) × (i < sizes .slots) × (p ≡ progressOf (slotAt i (stackOf sizes (now state)))) × (p .len ≤ sizes .body) × (isMiddle h p (length (now packet) - 4) (sizes .body) ≡ true) ⌝ }
-    ensures { λ r. ⌜ Makes sizes (land (sizes .body) i (stackOf sizes (now (state .entry))) h (now (packet .entry)) (Pass (slotAt i (stackOf sizes (now (state .entry)))))) r (now (state .entry)) (now (state .exit)) (now (pool .entry)) (now (pool .exit)) ⌝ }
-{
-    let n = packet.len() - 4;
-    state::tick(state, sizes);
-    let seq = (h.seq % 4 + 1) % 4;
-    let len = p.len + n;
-    let next = Progress { seq: seq, len: len };
-    state::put_progress(state, sizes, i, next);
-    let at = sizes.body * i + p.len;
-    copying::copy(&mut pool[at..], &packet[4..]);
-    Received::More
 }
 
 // Rules 40 to 42: an empty slot counts one event, and its gate looks at the packet.

@@ -1,4 +1,4 @@
--- `gate_at` asks in the definition's order: what an empty slot asks, then whose tag it is, then the flow.
+-- `gate_empty` asks in the definition's order: what an empty slot asks, then whose tag it is, then the flow.
 use mathlib.Core.Path.{_≡_, sym, ap, _∙_}
 use denote.Ref.{now}
 use borrow.Author.Needs.{needs}

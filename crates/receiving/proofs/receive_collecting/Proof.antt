@@ -1,4 +1,4 @@
--- `go_on` goes the short way where the packet is a middle one, and otherwise enters the slot that it decodes: both make what the definition says.
+-- `receive_collecting` goes the short way where the packet is a middle one, and otherwise enters the slot that it decodes: both make what the definition says.
 use mathlib.Core.Path.{sym, ap, _∙_}
 use denote.Ref.{now}
 use borrow.Author.Needs.{needs}

@@ -1,4 +1,4 @@
--- `open` counts the event whatever the gate says; the slot that passes has its ranges, and the packet enters it.
+-- `receive_opening` counts the event whatever the gate says; the slot that passes has its ranges, and the packet enters it.
 use native.Mathlib.Omega.{arith}
 use mathlib.Core.Path.{sym, _∙_}
 use denote.Ref.{now}

@@ -1,9 +1,9 @@
--- `goes_on` asks in the definition's order.
+-- `is_middle` asks in the definition's order.
 use borrow.Author.Needs.{needs}
 use Rattle.octets.proofs.Tests.{picks}
 use Rattle.receiving.specs.Receive.{isMiddle}
-use Rattle.receiving.proofs.is_middle.Statement.{statement}
-use Rattle.receiving.proofs.is_middle.Tie as tie
+use Rattle.receiving.proofs.middle.is_middle.Statement.{statement}
+use Rattle.receiving.proofs.middle.is_middle.Tie as tie
 
 returns : tie.Need-returns
 unfolding isMiddle

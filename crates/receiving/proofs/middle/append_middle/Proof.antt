@@ -1,4 +1,4 @@
--- `carry` counts the event, stores sequence and length, and copies the packet's bytes behind the body: they fit it, so they fit the pool.
+-- `append_middle` counts the event, stores sequence and length, and copies the packet's bytes behind the body: they fit it, so they fit the pool.
 use Prim.Native.Nat.{ℕ, _+_, _-_, _*_, _%_, _≤_}
 use native.Mathlib.Omega.{arith}
 use mathlib.Core.Path.{refl, sym}
@@ -11,9 +11,9 @@ use Rattle.state.proofs.StackLaws.{andThen}
 use Rattle.receiving.specs.declared.Received.the-variants.{More}
 use Rattle.receiving.proofs.Entered.{in-pool, copied}
 use Rattle.receiving.proofs.Receipts.{makes-as}
-use Rattle.receiving.proofs.Middle.{goes-room, middle}
-use Rattle.receiving.proofs.append_middle.Statement.{statement}
-use Rattle.receiving.proofs.append_middle.Tie as tie
+use Rattle.receiving.proofs.MiddleLaws.{goes-room, middle}
+use Rattle.receiving.proofs.middle.append_middle.Statement.{statement}
+use Rattle.receiving.proofs.middle.append_middle.Tie as tie
 
 -- what the body holds once the packet is in it
 fits : (s : tie.Start) → s .args .p .len + (length (now (s .args .packet)) - 4) ≤ s .args .sizes .body
