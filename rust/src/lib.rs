@@ -68,6 +68,7 @@
 
 pub mod config;
 mod error;
+mod exported;
 #[allow(unsafe_code)]
 mod ffi;
 pub mod fragment;

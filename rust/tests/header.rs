@@ -1,4 +1,4 @@
-//! Holds include/hyphaloom.h and the declarations of src/ffi.rs to the exported calls of crate `board`: names, order and types of
+//! Holds include/hyphaloom.h and the declarations of src/exported.rs to the exported calls of crate `board`: names, order and types of
 //! all arguments, the fields of the structs, the constants, and the archive's symbols. The last tests show that it can fail.
 
 use hyphaloom::config;
@@ -322,11 +322,11 @@ fn header_differences(header: &str) -> Vec<String> {
     differences
 }
 
-/// Everything in which the declarations of ffi.rs differ from them.
-fn ffi_differences(ffi: &str) -> Vec<String> {
-    let block = between(ffi, "extern \"C\" {", "{\n", "\n}\n");
+/// Everything in which the declarations of exported.rs differ from them.
+fn declaration_differences(declarations: &str) -> Vec<String> {
+    let block = between(declarations, "extern \"C\" {", "{\n", "\n}\n");
     let one = |text: &str| format!("fn {}", spaced(text).trim_end_matches(';').replace("( ", "(").replace(", )", ")"));
-    let found: Vec<_> = block.split("fn ").skip(1).map(one).collect();
+    let found: Vec<_> = block.split("pub fn ").skip(1).map(one).collect();
     let wanted: Vec<_> = exported(&calls()).iter().map(|call| RUST.declaration(call)).collect();
     let mut differences = Vec::new();
     compare("call", &found, &wanted, &mut differences);
@@ -345,8 +345,8 @@ fn the_header_is_that_of_the_exported_calls() {
 }
 
 #[test]
-fn ffi_declares_the_exported_calls() {
-    assert_eq!(ffi_differences(&read("rust/src/ffi.rs")), [""; 0]);
+fn the_exported_calls_are_declared() {
+    assert_eq!(declaration_differences(&read("rust/src/exported.rs")), [""; 0]);
 }
 
 #[test]
@@ -414,8 +414,8 @@ fn a_wrong_header_is_noticed() {
 }
 
 #[test]
-fn a_wrong_declaration_in_ffi_is_noticed() {
-    let ffi = read("rust/src/ffi.rs");
+fn a_wrong_declaration_is_noticed() {
+    let declarations = read("rust/src/exported.rs");
     let edits = [
         ("own: u8, mtu: usize, clock: u64) -> u8;", "mtu: usize, own: u8, clock: u64) -> u8;"),
         ("message: *mut [u64; 10]", "message: *mut [u64; 9]"),
@@ -423,6 +423,6 @@ fn a_wrong_declaration_in_ffi_is_noticed() {
         ("fn hyphaloom_is_kept(state: *const u8, state_len: usize) -> bool;", "fn hyphaloom_is_kept(state: *const u8) -> bool;"),
     ];
     for (from, to) in edits {
-        assert_ne!(ffi_differences(&edited(&ffi, from, to)), [""; 0], "{from}");
+        assert_ne!(declaration_differences(&edited(&declarations, from, to)), [""; 0], "{from}");
     }
 }
