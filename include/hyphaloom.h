@@ -57,8 +57,9 @@ extern "C" {
 #define HYPHALOOM_MIN_MTU 5
 #define HYPHALOOM_MAX_MTU 255
 
-/* A message or a flow expires when it is older than this. Timeouts are checked at most once in an interval. */
-#define HYPHALOOM_TIMEOUT_MILLIS 6000
+/* A message, and a flow with expiry, expires when it is older than this. Timeouts are checked at most once in an interval. */
+#define HYPHALOOM_REASSEMBLY_TIMEOUT_MILLIS 6000
+#define HYPHALOOM_FLOW_TIMEOUT_MILLIS 6000
 #define HYPHALOOM_INTERVAL_MILLIS 100
 
 /* Endpoint IDs that are no endpoint's own. */
@@ -193,7 +194,7 @@ uint8_t hyphaloom_fragment(struct hyphaloom_fragmenter *fragmenter, const uint8_
 
 /*
  * Takes the clock, in milliseconds, and tells after how long to call again. If that time of the last call is over, drops what
- * is older than 6,000 ms: messages half in, from their opening packet; whole ones with no handle out, from their closing
+ * is older than its timeout: messages half in, from their opening packet; whole ones with no handle out, from their closing
  * packet; flows with expiry, from their send.
  * INVALID_INPUT: the clock is below the last one.
  */

@@ -1,4 +1,4 @@
-//! The sizes of a board.
+//! The sizes and times of a board. Times are in milliseconds.
 
 /// Messages that are collected or kept at a time.
 pub const NUM_RECEIVE: usize = 4;
@@ -20,3 +20,15 @@ pub const STATE_BYTES: usize = 2248;
 
 /// Bytes of a pool: [`NUM_RECEIVE`] bodies of [`MAX_PAYLOAD`] bytes.
 pub const POOL_BYTES: usize = NUM_RECEIVE * MAX_PAYLOAD;
+
+/// A message expires when it is older than this: half in, from its opening packet; whole with no handle out, from its closing one.
+pub const REASSEMBLY_EXPIRY_TIMEOUT: u32 = 6000;
+
+/// How long a whole message with no handle out is kept for [`get_deferred`](crate::Stack::get_deferred).
+pub const DEFERRED_TIMEOUT: u32 = REASSEMBLY_EXPIRY_TIMEOUT;
+
+/// A flow with expiry expires when it is older than this, from its send.
+pub const FLOW_EXPIRY_TIMEOUT: u32 = 6000;
+
+/// Timeouts are checked at most once in so long. See [`Stack::update`](crate::Stack::update).
+pub const TIMEOUT_INTERVAL: u32 = 100;

@@ -59,6 +59,7 @@
 //! - `receive` and `fetch_message` are lent the pool.
 //! - `new` and the calls under a handle give a `Result` where the original panics.
 //! - `fetch_message_with` is left out: fetch, then finish.
+//! - All sizes and times are in [`config`], `DEFERRED_TIMEOUT` and `TIMEOUT_INTERVAL` as well.
 //! - [`AppCookie`] is a `u64`; [`Stack::free_tags`] and [`Error::PoolShort`] are added.
 //! - [`Stack::as_bytes`], [`Stack::from_bytes`] and [`Stack::is_kept`] are added.
 
@@ -79,12 +80,6 @@ pub use error::{Error, NotKept, Result};
 pub use fragment::{Fragmenter, SendOutput};
 pub use stack::{MctpMessage, ReceiveHandle, Stack};
 pub use types::{AppCookie, Eid, MsgIC, MsgType, Tag, TagValue};
-
-/// How long a whole message with no handle out is kept, in milliseconds.
-pub const DEFERRED_TIMEOUT: u32 = 6000;
-
-/// Timeouts are checked at most once in so many milliseconds. See [`Stack::update`].
-pub const TIMEOUT_INTERVAL: u32 = 100;
 
 /// A pool of just the size needed. The calls take any slice, as boards place their buffers in their own way.
 pub type Pool = [u8; config::POOL_BYTES];

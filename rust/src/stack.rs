@@ -3,7 +3,10 @@
 use crate::config::STATE_BYTES;
 use crate::ffi::{HandleRow, MessageRow, SendRow, State};
 #[cfg(doc)]
-use crate::{config::POOL_BYTES, Error, DEFERRED_TIMEOUT};
+use crate::{
+    config::{DEFERRED_TIMEOUT, FLOW_EXPIRY_TIMEOUT, POOL_BYTES, REASSEMBLY_EXPIRY_TIMEOUT, TIMEOUT_INTERVAL},
+    Error,
+};
 use crate::{AppCookie, Eid, Fragmenter, MsgIC, MsgType, NotKept, Result, Tag, TagValue};
 use core::fmt;
 
@@ -64,11 +67,12 @@ impl Stack {
         self.state.is_kept()
     }
 
-    /// Takes the clock and gives `(millis, expired)`: after how long to call again, at most 100, and whether something has
-    /// expired.
+    /// Takes the clock and gives `(millis, expired)`: after how long to call again, at most [`TIMEOUT_INTERVAL`], and whether
+    /// something has expired.
     ///
-    /// If the time that the last call gave is over, drops what is older than 6,000 ms: messages half in, from their opening
-    /// packet; whole ones with no handle out, from their closing packet; flows with expiry, from their send.
+    /// If the time that the last call gave is over, drops messages older than [`REASSEMBLY_EXPIRY_TIMEOUT`] (half in, from their
+    /// opening packet; whole with no handle out, from their closing packet) and flows with expiry older than
+    /// [`FLOW_EXPIRY_TIMEOUT`], from their send.
     ///
     /// [`Error::InvalidInput`]: the clock is below the last one.
     ///

@@ -290,7 +290,8 @@ fn wanted_constants() -> BTreeMap<String, u64> {
             ("FLOWS", number(config, "FLOWS: usize = ")),
             ("MIN_MTU", number(config, "MIN_MTU: usize = ")),
             ("MAX_MTU", number(config, "MAX_MTU: usize = ")),
-            ("TIMEOUT_MILLIS", number(config, "REASSEMBLY_EXPIRY_TIMEOUT: u32 = ")),
+            ("REASSEMBLY_TIMEOUT_MILLIS", number(config, "REASSEMBLY_EXPIRY_TIMEOUT: u32 = ")),
+            ("FLOW_TIMEOUT_MILLIS", number(config, "FLOW_EXPIRY_TIMEOUT: u32 = ")),
             ("INTERVAL_MILLIS", number(config, "TIMEOUT_INTERVAL: u32 = ")),
             ("EID_NULL", number(mctp, "NULL: Eid = Eid(")),
             ("EID_ANY", number(mctp, "ANY: Eid = Eid(")),
@@ -360,8 +361,9 @@ fn the_wrapper_has_the_headers_constants() {
         ("FLOWS", config::FLOWS),
         ("MIN_MTU", config::MIN_MTU),
         ("MAX_MTU", config::MAX_MTU),
-        ("TIMEOUT_MILLIS", hyphaloom::DEFERRED_TIMEOUT as usize),
-        ("INTERVAL_MILLIS", hyphaloom::TIMEOUT_INTERVAL as usize),
+        ("REASSEMBLY_TIMEOUT_MILLIS", config::REASSEMBLY_EXPIRY_TIMEOUT as usize),
+        ("FLOW_TIMEOUT_MILLIS", config::FLOW_EXPIRY_TIMEOUT as usize),
+        ("INTERVAL_MILLIS", config::TIMEOUT_INTERVAL as usize),
     ];
     for (name, number) in ours {
         assert_eq!(header[&format!("HYPHALOOM_{name}")], number as u64, "{name}");
@@ -405,6 +407,7 @@ fn a_wrong_header_is_noticed() {
         ("a field left out", "    uint64_t seq;\n", ""),
         ("a narrower field", "    uint64_t millis;", "    uint32_t millis;"),
         ("another size", "HYPHALOOM_STATE_BYTES 2248", "HYPHALOOM_STATE_BYTES 2240"),
+        ("another time", "HYPHALOOM_FLOW_TIMEOUT_MILLIS 6000", "HYPHALOOM_FLOW_TIMEOUT_MILLIS 60000"),
         ("another number", "HYPHALOOM_UNREACHABLE = 5", "HYPHALOOM_UNREACHABLE = 6"),
         ("another kind", "HYPHALOOM_TAG_OWNED = 1", "HYPHALOOM_TAG_OWNED = 2"),
     ];
