@@ -1,25 +1,16 @@
 // Any call by its number, its numbers and its bytes, with an exact contract: state and pool afterwards are those of `steps`, of which the theorems speak.
 // So the prover checks that each exported call does what `step` says of it. Definitions: specs/Perform.antt.
-// Leans on `board` for the calls, on `rows` for numbers read; in definitions on `promises`.
+// Leans on `board` for the calls, on `rows` for numbers read, on `mctp` for a yes or no as a number; in definitions on `promises`.
 ghost use Prim.Native.Nat.{ℕ};
 ghost use mathlib.Core.Path.{_≡_};
 ghost use mathlib.Core.List.{List};
 ghost use lib.ListN.{length};
 ghost use Rattle.state.specs.Stack.{Kept};
-ghost use Rattle.mctp.specs.Answer.{flagWord};
 ghost use Rattle.board.specs.Board.{board};
 ghost use Rattle.performing.specs.Cuts.{Cuts};
 ghost use Rattle.performing.specs.Perform.{Lent, lent, Begins, Performs, ownCalls, lookCalls, handleCalls, flowCalls, smallCalls, callsOf};
+use mctp::bit_of;
 use rows::narrow;
-
-fn bit(b: bool) -> u8
-    ensures { λ r. ⌜ r ≡ flagWord b ⌝ }
-{
-    if b {
-        return 1;
-    }
-    0
-}
 
 // The own EID.
 fn own(op: u8, state: &mut [u8], args: &[u64; 10], bytes: &[u8]) -> u8
@@ -33,7 +24,7 @@ fn own(op: u8, state: &mut [u8], args: &[u64; 10], bytes: &[u8]) -> u8
         return board::hyphaloom_eid(state);
     }
     if op == 4 {
-        return bit(board::hyphaloom_is_local_dest(state, bytes));
+        return bit_of(board::hyphaloom_is_local_dest(state, bytes), 1);
     }
     1
 }

@@ -1,12 +1,19 @@
-use mathlib.Core.Path.{refl, ap, _∙_}
+-- `own`: the own EID is set or told, or a packet's destination is looked at; a yes or no is told as 1 or 0.
+use mathlib.Core.Path.{_≡_, refl, ap, _∙_}
+use mathlib.Core.Bool.{Bool, true, false}
 use borrow.Author.Needs.{needs}
 use borrow.Author.Tests.{eq-eqb, ne-eqb}
 use Rattle.octets.specs.Pick.{pick}
 use Rattle.mctp.specs.Answer.{flagWord}
+use Rattle.mctp.specs.Header.{bit}
 use Rattle.performing.specs.Perform.{ownCalls}
 use Rattle.performing.proofs.Links.{set-eid-link, eid-link, local-link, nothing-link}
 use Rattle.performing.proofs.own.Statement.{statement}
 use Rattle.performing.proofs.own.Tie as tie
+
+bit-flag : (b : Bool) → bit b 1 ≡ flagWord b
+bit-flag true = refl
+bit-flag false = refl
 
 element-copy-out-narrow : tie.Need-element-copy-out-narrow
 element-copy-out-narrow c = search needs
@@ -42,8 +49,8 @@ returns-2 c =
 hyphaloom-is-local-dest-requires : tie.Need-hyphaloom-is-local-dest-requires
 hyphaloom-is-local-dest-requires c κs = search needs
 
-bit-requires : tie.Need-bit-requires
-bit-requires c κs = search needs
+bit-of-requires : tie.Need-bit-of-requires
+bit-of-requires c κs = search needs
 
 same-length-3 : tie.Need-same-length-3
 same-length-3 c = search needs
@@ -53,7 +60,7 @@ unfolding ownCalls pick
 returns-3 c =
     let t = c .before .before .before in
     let k = c .before .before .before .before .before .before .before .before .pre in
-    rw (ne-eqb _ _ (t .before .before .if1 .left), ne-eqb _ _ (t .before .if2 .left), eq-eqb _ _ (t .if3 .taken)) (λ l. local-link _ k _ l _ (c .bit .ensures ∙ ap flagWord (c .before .hyphaloom-is-local-dest .ensures)))
+    rw (ne-eqb _ _ (t .before .before .if1 .left), ne-eqb _ _ (t .before .if2 .left), eq-eqb _ _ (t .if3 .taken)) (λ l. local-link _ k _ l _ (c .bit-of .ensures .0 ∙ bit-flag (c .before .hyphaloom-is-local-dest .result) ∙ ap flagWord (c .before .hyphaloom-is-local-dest .ensures)))
 
 returns-4 : tie.Need-returns-4
 unfolding ownCalls pick
@@ -72,7 +79,7 @@ own-spec =
     same-length-2
     returns-2
     hyphaloom-is-local-dest-requires
-    bit-requires
+    bit-of-requires
     same-length-3
     returns-3
     returns-4)
