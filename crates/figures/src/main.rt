@@ -1,167 +1,173 @@
-// Runs every figure of docs/RULES.md, section 11, on the compiled code, and writes a line for each.
+// Runs the figures of docs/RULES.md, section 11, and four headers by its rules 10 and 40, on the compiled code, and writes a line for each.
 // What it must write stands in `stdout`, taken from there. Each figure has a fresh stack; the pool is lent to every receive and fetch.
-// Leans on `figures_parts` for a fresh stack (own EID 8, clock 0) and for each call, told in words.
+// Each text says what is asked, and begins with what parts it from the one before: a new line, or `; ` or `, ` within a line.
+// Leans on `figures_parts` for a fresh stack (own EID 8, clock 0) and for each call, told in words after its text.
 ghost use Prim.Native.Nat.{_≤_};
 ghost use lib.ListN.{length};
 use estack::SendMtu;
 use figures_parts::Show;
-use figures_parts::end_line;
 use figures_parts::first_packet;
 use figures_parts::fresh_stack;
 use figures_parts::fresh_tag;
 use figures_parts::fresh_tags;
 use figures_parts::packets;
 use figures_parts::receive;
-use figures_parts::say;
 use figures_parts::update;
+
+// The stack's own EID, and the endpoint that it talks with.
+const OWN: u8 = 8;
 
 const PEER: u8 = 9;
 
+// The stack's MTU where a figure names none.
+const MTU: usize = 255;
+
 // A packet buffer with room for any packet.
 const ROOM: usize = 255;
+
+// What a packet that comes in begins with: version, destination, source, flags, type. Both kinds of flags have sequence 0, TO and tag 1.
+const VERSION: u8 = 1;
+// SOM and EOM
+const WHOLE: u8 = 0xc9;
+// SOM alone
+const OPENING: u8 = 0x89;
+
+const TYPE: u8 = 1;
 
 // ---- sending
 
 fn packets_of(state: &mut [u8], text: &[u8], mtu: SendMtu, payload: &[u8])
     requires { ⌜ 2248 ≤ length (now state) ⌝ }
 {
-    fresh_stack(state, 255);
-    say(text);
-    packets(state, PEER, mtu, payload);
-    end_line();
+    fresh_stack(state, MTU);
+    packets(state, text, PEER, mtu, payload);
 }
 
 fn sends(state: &mut [u8])
     requires { ⌜ 2248 ≤ length (now state) ⌝ }
 {
     packets_of(state, b"send aa bb cc:", SendMtu::Own, b"\xaa\xbb\xcc");
-    packets_of(state, b"with MTU 6:", SendMtu::AtMost(6), b"\xaa\xbb\xcc");
-    packets_of(state, b"empty payload:", SendMtu::Own, b"");
+    packets_of(state, b"\nwith MTU 6:", SendMtu::AtMost(6), b"\xaa\xbb\xcc");
+    packets_of(state, b"\nempty payload:", SendMtu::Own, b"");
 }
 
 fn with_mtu(state: &mut [u8], text: &[u8], mtu: usize)
     requires { ⌜ 2248 ≤ length (now state) ⌝ }
 {
     fresh_stack(state, 300);
-    say(text);
-    first_packet(state, PEER, SendMtu::AtMost(mtu), b"\xaa\xbb\xcc", ROOM);
+    first_packet(
+        state,
+        text,
+        PEER,
+        SendMtu::AtMost(mtu),
+        b"\xaa\xbb\xcc",
+        ROOM,
+    );
 }
 
 fn mtus(state: &mut [u8])
     requires { ⌜ 2248 ≤ length (now state) ⌝ }
 {
-    with_mtu(state, b"stack MTU 300, send MTU 4:", 4);
+    with_mtu(state, b"\nstack MTU 300, send MTU 4:", 4);
     with_mtu(state, b"; 5:", 5);
     with_mtu(state, b"; 255:", 255);
     with_mtu(state, b"; 256:", 256);
-    end_line();
 }
 
 fn with_buffer(state: &mut [u8], text: &[u8], room: usize)
     requires { ⌜ 2248 ≤ length (now state) ⌝ }
 {
-    fresh_stack(state, 255);
-    say(text);
-    first_packet(state, PEER, SendMtu::Own, b"\xaa\xbb\xcc", room);
+    fresh_stack(state, MTU);
+    first_packet(state, text, PEER, SendMtu::Own, b"\xaa\xbb\xcc", room);
 }
 
 fn buffers(state: &mut [u8])
     requires { ⌜ 2248 ≤ length (now state) ⌝ }
 {
-    with_buffer(state, b"buffer 4:", 4);
+    with_buffer(state, b"\nbuffer 4:", 4);
     with_buffer(state, b"; 5:", 5);
-    end_line();
 }
 
 fn tags(state: &mut [u8])
     requires { ⌜ 2248 ≤ length (now state) ⌝ }
 {
-    fresh_stack(state, 255);
-    say(b"tags to 9:");
-    fresh_tags(state, PEER, 8);
-    say(b", ninth:");
-    fresh_tag(state, PEER);
-    say(b", to 10:");
-    fresh_tag(state, 10);
-    end_line();
+    fresh_stack(state, MTU);
+    fresh_tags(state, b"\ntags to 9:", PEER, 8);
+    fresh_tag(state, b", ninth:", PEER);
+    fresh_tag(state, b", to 10:", 10);
 }
 
 // ---- receiving
 
-// A message of zeros in one packet: its header and type, and 1,033 bytes.
-fn zeros_from_peer() -> [u8; 1038] {
+// A whole message of zeros in one packet, with a body one byte too long: 5 bytes and 1,033.
+fn zeros() -> [u8; 1038] {
     let mut packet = [0u8; 1038];
-    packet[0] = 0x01;
-    packet[1] = 0x08;
+    packet[0] = VERSION;
+    packet[1] = OWN;
     packet[2] = PEER;
-    packet[3] = 0xc9;
-    packet[4] = 0x01;
+    packet[3] = WHOLE;
+    packet[4] = TYPE;
     packet
 }
 
 fn longest_body(state: &mut [u8], pool: &mut [u8])
     requires { ⌜ 2248 ≤ length (now state) ⌝ }
 {
-    let packet = zeros_from_peer();
-    fresh_stack(state, 255);
-    say(b"body 1032:");
-    receive(state, pool, &packet[0..1037], Show::Size);
+    let packet = zeros();
+    fresh_stack(state, MTU);
+    receive(state, pool, b"\nbody 1032:", &packet[0..1037], Show::Size);
 }
 
-// On the same line: one byte more.
 fn longer_body(state: &mut [u8], pool: &mut [u8])
     requires { ⌜ 2248 ≤ length (now state) ⌝ }
 {
-    let packet = zeros_from_peer();
-    fresh_stack(state, 255);
-    say(b"; 1033:");
-    receive(state, pool, &packet, Show::Size);
-    say(b", the next message from 10 in slot");
-    receive(state, pool, b"\x01\x08\x0a\xc9\x01", Show::Slot);
-    end_line();
+    let packet = zeros();
+    let next = [VERSION, OWN, 10, WHOLE, TYPE];
+    fresh_stack(state, MTU);
+    receive(state, pool, b"; 1033:", &packet, Show::Size);
+    receive(
+        state,
+        pool,
+        b", the next message from 10 in slot",
+        &next,
+        Show::Slot,
+    );
 }
 
 fn one_byte(state: &mut [u8], pool: &mut [u8])
     requires { ⌜ 2248 ≤ length (now state) ⌝ }
 {
-    fresh_stack(state, 255);
-    say(b"packet 01 08 09 c9 01 2a:");
-    receive(state, pool, b"\x01\x08\x09\xc9\x01\x2a", Show::Whole);
-    end_line();
+    let packet = [VERSION, OWN, PEER, WHOLE, TYPE, 0x2a];
+    fresh_stack(state, MTU);
+    receive(
+        state,
+        pool,
+        b"\npacket 01 08 09 c9 01 2a:",
+        &packet,
+        Show::Whole,
+    );
 }
 
-fn with_header(state: &mut [u8], pool: &mut [u8], text: &[u8], packet: &[u8])
+fn with_header(state: &mut [u8], pool: &mut [u8], text: &[u8], version: u8, dest: u8, source: u8)
     requires { ⌜ 2248 ≤ length (now state) ⌝ }
 {
-    fresh_stack(state, 255);
-    say(text);
-    receive(state, pool, packet, Show::Taken);
+    let packet = [version, dest, source, WHOLE, TYPE, 0x2a];
+    fresh_stack(state, MTU);
+    receive(state, pool, text, &packet, Show::Taken);
 }
 
 fn bad_headers(state: &mut [u8], pool: &mut [u8])
     requires { ⌜ 2248 ≤ length (now state) ⌝ }
 {
-    with_header(state, pool, b"version 2:", b"\x02\x08\x09\xc9\x01\x2a");
-    with_header(state, pool, b"; source 255:", b"\x01\x08\xff\xc9\x01\x2a");
+    with_header(state, pool, b"\nversion 2:", 2, OWN, PEER);
+    with_header(state, pool, b"; source 255:", VERSION, OWN, 255);
 }
 
-// On the same line.
 fn destinations(state: &mut [u8], pool: &mut [u8])
     requires { ⌜ 2248 ≤ length (now state) ⌝ }
 {
-    with_header(
-        state,
-        pool,
-        b"; destination 7:",
-        b"\x01\x07\x09\xc9\x01\x2a",
-    );
-    with_header(
-        state,
-        pool,
-        b"; destination 0:",
-        b"\x01\x00\x09\xc9\x01\x2a",
-    );
-    end_line();
+    with_header(state, pool, b"; destination 7:", VERSION, 7, PEER);
+    with_header(state, pool, b"; destination 0:", VERSION, 0, PEER);
 }
 
 // ---- the clock
@@ -169,25 +175,19 @@ fn destinations(state: &mut [u8], pool: &mut [u8])
 fn collecting_expires(state: &mut [u8], pool: &mut [u8])
     requires { ⌜ 2248 ≤ length (now state) ⌝ }
 {
-    fresh_stack(state, 255);
-    say(b"SOM at 0:");
-    receive(state, pool, b"\x01\x08\x09\x89\x01\x55", Show::Whole);
-    say(b", update 6000:");
-    update(state, 6000);
-    say(b"; 6001:");
-    update(state, 6001);
-    end_line();
+    let packet = [VERSION, OWN, PEER, OPENING, TYPE, 0x2a];
+    fresh_stack(state, MTU);
+    receive(state, pool, b"\nSOM at 0:", &packet, Show::Whole);
+    update(state, b", update 6000:", 6000);
+    update(state, b"; 6001:", 6001);
 }
 
 fn idle(state: &mut [u8])
     requires { ⌜ 2248 ≤ length (now state) ⌝ }
 {
-    fresh_stack(state, 255);
-    say(b"idle, update 1000:");
-    update(state, 1000);
-    say(b"; 1040:");
-    update(state, 1040);
-    end_line();
+    fresh_stack(state, MTU);
+    update(state, b"\nidle, update 1000:", 1000);
+    update(state, b"; 1040:", 1040);
 }
 
 // ---- all of them
@@ -230,4 +230,5 @@ fn main() {
     bodies(&mut state, &mut pool);
     times(&mut state, &mut pool);
     headers(&mut state, &mut pool);
+    io::write_all(1, b"\n");
 }

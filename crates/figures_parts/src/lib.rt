@@ -1,4 +1,4 @@
-// The parts of the program `figures`: a fresh stack, and each call of a figure, run on the stack's own calls and told in words.
+// The parts of the program `figures`: a fresh stack, and each call of a figure, run on the stack's own calls and told in words, after a text that says what is asked.
 // A message is cut in place (`cut`), and a body is lent by the message that borrows it from the pool (`messages::lend_body`). Definitions: specs/Figure.antt.
 // Leans on `estack` for the calls, on `fragment` and `messages` for packets and bodies, on `board` for the sizes.
 ghost use mathlib.Core.Path.{_≡_};
@@ -32,12 +32,8 @@ use state::Sizes;
 
 // ---- writing
 
-pub fn say(text: &[u8]) {
+fn say(text: &[u8]) {
     io::write_all(1, text);
-}
-
-pub fn end_line() {
-    say(b"\n");
 }
 
 // A space, and the number.
@@ -149,10 +145,11 @@ fn cut_in_two(f: Fragmenter, payload: &[u8]) {
 }
 
 // Sends to that peer, and shows the packets.
-pub fn packets(state: &mut [u8], peer: u8, mtu: SendMtu, payload: &[u8])
+pub fn packets(state: &mut [u8], text: &[u8], peer: u8, mtu: SendMtu, payload: &[u8])
     requires { ⌜ Kept board (now state) ⌝ }
     ensures { λ _. ⌜ Becomes board (now (state .entry)) (now (state .exit)) (startSendOf (asked peer mtu) (stackOf board (now (state .entry))) .stack) ⌝ }
 {
+    say(text);
     let started = start(state, peer, mtu);
     match started {
         Started::Sends(f) => cut_in_two(f, payload),
@@ -181,10 +178,18 @@ fn cut_first(f: Fragmenter, payload: &[u8], room: usize) {
 }
 
 // Sends to that peer, and shows whether the first packet is taken in a buffer of that room.
-pub fn first_packet(state: &mut [u8], peer: u8, mtu: SendMtu, payload: &[u8], room: usize)
+pub fn first_packet(
+    state: &mut [u8],
+    text: &[u8],
+    peer: u8,
+    mtu: SendMtu,
+    payload: &[u8],
+    room: usize,
+)
     requires { ⌜ Kept board (now state) ⌝ }
     ensures { λ _. ⌜ Becomes board (now (state .entry)) (now (state .exit)) (startSendOf (asked peer mtu) (stackOf board (now (state .entry))) .stack) ⌝ }
 {
+    say(text);
     let started = start(state, peer, mtu);
     match started {
         Started::Sends(f) => cut_first(f, payload, room),
@@ -196,8 +201,7 @@ fn tag_of(f: Fragmenter) {
     number(f.tag().tag().0 as u64);
 }
 
-// Starts a send to that peer, and shows its tag.
-pub fn fresh_tag(state: &mut [u8], peer: u8)
+fn show_tag(state: &mut [u8], peer: u8)
     requires { ⌜ Kept board (now state) ⌝ }
     ensures { λ _. ⌜ Becomes board (now (state .entry)) (now (state .exit)) (startSendOf (asked peer SendMtu.Own) (stackOf board (now (state .entry))) .stack) ⌝ }
 {
@@ -208,14 +212,24 @@ pub fn fresh_tag(state: &mut [u8], peer: u8)
     }
 }
 
+// Starts a send to that peer, and shows its tag.
+pub fn fresh_tag(state: &mut [u8], text: &[u8], peer: u8)
+    requires { ⌜ Kept board (now state) ⌝ }
+    ensures { λ _. ⌜ Becomes board (now (state .entry)) (now (state .exit)) (startSendOf (asked peer SendMtu.Own) (stackOf board (now (state .entry))) .stack) ⌝ }
+{
+    say(text);
+    show_tag(state, peer);
+}
+
 // So many of them.
-pub fn fresh_tags(state: &mut [u8], peer: u8, count: u8)
+pub fn fresh_tags(state: &mut [u8], text: &[u8], peer: u8, count: u8)
     requires { ⌜ Kept board (now state) ⌝ }
     ensures { λ _. ⌜ Kept board (now (state .exit)) ⌝ }
 {
+    say(text);
     let mut left = count;
     while 0 < left {
-        fresh_tag(state, peer);
+        show_tag(state, peer);
         left -= 1;
     }
 }
@@ -278,10 +292,11 @@ fn settle(state: &mut [u8], pool: &[u8], handle: ReceiveHandle, show: Show)
 }
 
 // Receives a packet, and shows what it gives: more to come, a message, which is then finished, or a refusal.
-pub fn receive(state: &mut [u8], pool: &mut [u8], packet: &[u8], show: Show)
+pub fn receive(state: &mut [u8], pool: &mut [u8], text: &[u8], packet: &[u8], show: Show)
     requires { ⌜ Kept board (now state) ⌝ }
     ensures { λ _. ⌜ Kept board (now (state .exit)) ⌝ }
 {
+    say(text);
     let received = estack::receive(state, Sizes::BOARD, pool, packet);
     match received {
         Received::More => say(b" more"),
@@ -302,10 +317,11 @@ fn planned(millis: u64, expired: bool) {
 }
 
 // Takes the clock, and shows what may pass until the next update, and whether something expired.
-pub fn update(state: &mut [u8], clock: u64)
+pub fn update(state: &mut [u8], text: &[u8], clock: u64)
     requires { ⌜ Kept board (now state) ⌝ }
     ensures { λ _. ⌜ Becomes board (now (state .entry)) (now (state .exit)) (updateOf clock (stackOf board (now (state .entry))) .stack) ⌝ }
 {
+    say(text);
     let updated = estack::update(state, Sizes::BOARD, clock);
     match updated {
         Updated::Next { millis, expired } => planned(millis, expired),

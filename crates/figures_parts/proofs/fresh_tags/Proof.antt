@@ -8,16 +8,19 @@ use Rattle.figures_parts.proofs.fresh_tags.Statement.{statement}
 use Rattle.figures_parts.proofs.fresh_tags.Tie as tie
 
 abbrev Inv-loop : tie.InvT-loop
-Inv-loop state₀ peer count left₀ state left = Kept board state × (length state ≡ length state₀)
+Inv-loop state₀ text peer count left₀ state left = Kept board state × (length state ≡ length state₀)
 
 abbrev μ-loop : tie.MeasureT-loop
-μ-loop state₀ peer count left₀ state left = left
+μ-loop state₀ text peer count left₀ state left = left
+
+say-requires : tie.Need-say-requires Inv-loop μ-loop
+say-requires c κs = search needs
 
 loop-holds : tie.Need-loop-holds Inv-loop μ-loop
 loop-holds c = search needs
 
-fresh-tag-requires : tie.Need-fresh-tag-requires Inv-loop μ-loop
-fresh-tag-requires c κs = search needs
+show-tag-requires : tie.Need-show-tag-requires Inv-loop μ-loop
+show-tag-requires c κs = search needs
 
 sub-left : tie.Need-sub-left Inv-loop μ-loop
 sub-left c = search needs
@@ -40,8 +43,9 @@ fresh-tags-spec =
     (tie.spec
     Inv-loop
     μ-loop
+    say-requires
     loop-holds
-    fresh-tag-requires
+    show-tag-requires
     sub-left
     loop-less
     loop-again
