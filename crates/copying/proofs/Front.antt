@@ -1,4 +1,4 @@
--- Laws of a copy by moves: a number's bytes moved, two moves side by side, and a front that moves carry on to the whole.
+-- Laws of a copy by moves: a move of a number's bytes, two moves side by side, and a copied front that further moves extend to the whole.
 use Prim.Native.Nat.{ℕ, _+_, _-_, _≤_, _<_}
 use native.Mathlib.Nat.{zero-add}
 use native.Mathlib.Omega.{arith}
@@ -22,7 +22,7 @@ module _ (s d : List ℕ) where
   pub moved : (i w : ℕ) {x : ℕ} {e : List ℕ} → x ≡ num (part i w s) → e ≡ over i (le w x) d → i + w ≤ length s → ((k : ℕ) → Fits w8 (getD s k 0)) → e ≡ over i (part i w s) d
   moved i w p q h g = q ∙ ap (λ (y : ℕ). over i (le w y) d) p ∙ ap (λ (v : List ℕ). over i v d) (le-field i w s h (bytes-slice s g))
 
-  -- two moves, the second from where the first ends
+  -- two moves, where the second begins at the end of the first
   pub moved-on : (i j n m k : ℕ) {f : List ℕ} → f ≡ over j (part j m s) (over i (part i n s) d) → i + n ≡ j → n + m ≡ k → i + k ≤ length s → length s ≤ length d → f ≡ over i (part i k s) d
   moved-on i j n m k q y z hs hd =
       let l = length-part i n s (omega arith) in

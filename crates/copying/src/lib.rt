@@ -1,6 +1,6 @@
-// The copying leaf: a slice over the front of another, as far as it fits, by moves of 1, 4, 8 and 16 bytes.
-// A move reads all its bytes before it writes the first, since a `&mut` is not marked noalias: only so two of 8 side by side become one of 16.
-// Leans on the numbers of `octets`, each at a window of its own width, so that none of their tests is left.
+// Copies a slice over the front of another, as far as it fits, in moves of 1, 4, 8 and 16 bytes.
+// A move reads all its bytes before it writes the first. A `&mut` is not marked noalias, so only in this order do two moves of 8 bytes become one of 16.
+// Leans on `octets` for numbers. Each is read or written in a window of its own width, so that none of its bounds tests is left in the compiled code.
 ghost use mathlib.Core.Path.{_≡_};
 ghost use mathlib.Core.List.{_++_};
 ghost use Prim.Native.Nat.{_+_, _≤_, _<_};
@@ -12,7 +12,7 @@ use octets::put4;
 use octets::put8;
 use octets::smaller;
 
-// The number of 4 bytes of `src` from `i`, and its store; then of 8.
+// `load4` reads the 4 bytes of `src` from `i` on as a number, and `store4` writes such a number; `load8` and `store8` do the same with 8 bytes.
 fn load4(src: &[u8], i: usize) -> u32
     requires { ⌜ i + 4 ≤ length (now src) ⌝ }
     ensures { λ r. ⌜ r ≡ field i 4 (now (src .entry)) ⌝ }
@@ -45,7 +45,7 @@ fn store8(dst: &mut [u8], i: usize, x: u64)
     put8(&mut dst[i..end], 0, x);
 }
 
-// 8 bytes of `src` from `i` and 8 from `j`, to the same places of `dst`; then 16 and 16.
+// `pair8` copies 8 bytes of `src` from `i` on and 8 from `j` on to the same places of `dst`; `pair16` copies 16 and 16.
 fn pair8(dst: &mut [u8], src: &[u8], i: usize, j: usize)
     requires { ⌜ (i + 8 ≤ length (now src)) × (j + 8 ≤ length (now src)) × (length (now src) ≤ length (now dst)) ⌝ }
     ensures { λ _. ⌜ now (dst .exit) ≡ over j (part j 8 (now (src .entry))) (over i (part i 8 (now (src .entry))) (now (dst .entry))) ⌝ }
@@ -122,7 +122,7 @@ fn whole(dst: &mut [u8], src: &[u8])
     long(dst, src);
 }
 
-// `src` over the front of `dst`, as far as it fits; what lies past it stays.
+// Copies `src` over the front of `dst`, as far as it fits; what lies past it stays.
 pub fn copy(dst: &mut [u8], src: &[u8])
     ensures { λ _. ⌜ now (dst .exit) ≡ lay 0 (now (src .entry)) (now (dst .entry)) ⌝ }
 {

@@ -1,4 +1,4 @@
--- A cookie comes back from its two numbers.
+-- A cookie that is written as two numbers is read back from them.
 use Prim.Native.Nat.{_<_}
 use native.Mathlib.Omega.{arith}
 use mathlib.Core.Path.{_≡_, refl}

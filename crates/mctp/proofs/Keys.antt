@@ -1,4 +1,4 @@
--- Two keys are one exactly when `sameKey` says so.
+-- Two keys are the same exactly when `sameKey` says so.
 use Prim.Native.Nat.{ℕ}
 use mathlib.Core.Path.{_≡_, refl, sym, _∙_}
 use mathlib.Core.Bool.{Bool, true, false}

@@ -28,7 +28,7 @@ one-is : (b : Bool) (n : ℕ) → n ≡ one b → eqb n 1 ≡ b
 one-is true n e = rw e
 one-is false n e = rw e
 
--- the digit d of base m above what is below b
+-- the digit d in base m that stands above the digits below b
 digit : (b m u d lo : ℕ) → lo < b → d < m → (b * (m * u + d) + lo) / b % m ≡ d
 digit b m u d lo l h =
     let pos : 0 < b = omega arith in
@@ -114,7 +114,7 @@ flags-back d s f h =
       eom-digit f,
     ) (som-digit f)
 
--- encoding what was read gives the bytes back, the reserved bits of byte 0 aside
+-- encoding what was read gives the bytes back, except for the reserved bits of byte 0
 pub write-back : (d s f : ℕ) → f < 256 → headerBytes (fieldsOf d s f) ≡ 1 ∷ d ∷ s ∷ f ∷ []
 write-back d s f h = ap (λ (x : ℕ). 1 ∷ d ∷ s ∷ x ∷ []) (flags-back d s f h)
 

@@ -1,4 +1,4 @@
--- The number of a header has its four bytes.
+-- The four bytes of a header's number are the header's bytes.
 use Prim.Native.Nat.{ℕ, _+_, _*_, _<_}
 use native.Mathlib.Omega.{arith}
 use mathlib.Core.Path.{_≡_}

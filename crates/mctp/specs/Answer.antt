@@ -18,7 +18,7 @@ abbrev pub answerValues : Answer → List ℕ
 answerValues (gives values) = values
 answerValues (refuses n values) = values
 
--- a row of k words that is lent for the values: they stand in it, or zeros where there are none; a refusal leaves it as it was
+-- a row of k words that is lent for the values, after the call: it holds them, or zeros where there are none; a refusal leaves it as it was
 abbrev pub rowAfter : ℕ → Answer → List ℕ → List ℕ
 rowAfter k (gives []) old = replicate k 0
 rowAfter k (gives (v ∷ values)) old = v ∷ values

@@ -15,7 +15,7 @@ use Rattle.mctp.specs.declared.Header.{Header}
 use Rattle.mctp.specs.declared.HeaderRead.{HeaderRead}
 use Rattle.mctp.specs.declared.HeaderRead.the-variants.{Good, Bad}
 
--- what bytes 1, 2 and 3 say
+-- what bytes 1, 2 and 3 of a header say
 abbrev pub fieldsOf : ℕ → ℕ → ℕ → Header
 fieldsOf d s f = record {
   key = record { source = record { 0 = s }; dest = record { 0 = d }; owner = eqb (f / 8 % 2) 1; tag = record { 0 = f % 8 } };

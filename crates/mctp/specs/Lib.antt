@@ -1,6 +1,6 @@
 -- The definitions that the contracts of `mctp` cite.
 -- Terms: EIDs, tags, keys, the refusals' numbers. Answer: a call's answer in numbers. Header: the packet on the wire.
--- Leans on `octets` for `pick` and numbers in bytes.
+-- Leans on `octets` for `pick`.
 pub mod Terms
 pub mod Answer
 pub mod Header

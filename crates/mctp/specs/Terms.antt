@@ -1,5 +1,5 @@
 -- The terms of docs/RULES.md, section 1: EIDs, tags, keys, cookies, and the numbers of the refusals.
--- Two keys are one where `sameKey` says so.
+-- Two keys are the same where `sameKey` says so.
 -- Leans on `pick` alone.
 use Prim.Native.Nat.{ℕ}
 use mathlib.Core.Bool.{Bool, true, false, not}
@@ -17,7 +17,7 @@ use Rattle.mctp.specs.declared.Key.{Key}
 use Rattle.mctp.specs.declared.Cookie.{Cookie}
 use Rattle.mctp.specs.declared.Cookie.the-variants.{Absent, Given}
 
--- "When the stack says no": each refusal's number
+-- each refusal's number (rule 13)
 abbrev pub errorNo : Error → ℕ
 errorNo InvalidInput = 1
 errorNo NoSpace = 2
@@ -26,7 +26,7 @@ errorNo TagUnavailable = 4
 errorNo Unreachable = 5
 errorNo PoolShort = 6
 
--- the constants of the endpoint type
+-- the EIDs that have a name (rule 1)
 abbrev pub nullEid : Eid
 nullEid = record { 0 = 0 }
 
@@ -36,7 +36,7 @@ anyEid = record { 0 = 255 }
 abbrev pub sameEid : Eid → Eid → Bool
 sameEid a b = eqb (a .0) (b .0)
 
--- 8 to 254, else InvalidInput
+-- 8 to 254 is a normal EID; any other number is InvalidInput
 unfoldable pub normalEid : ℕ → EidRead
 normalEid n = pick (ltb n 8) (Refused InvalidInput) (pick (ltb 254 n) (Refused InvalidInput) (Normal (record { 0 = n })))
 
@@ -48,7 +48,7 @@ abbrev pub isOwner : Tag → Bool
 isOwner (Owned t) = true
 isOwner (Unowned t) = false
 
--- a tag with TO as it stands in a key
+-- the tag of a key that has this TO and this tag number
 unfoldable pub tagUnder : Bool → TagValue → Tag
 tagUnder owner tag = pick owner (Owned tag) (Unowned tag)
 
@@ -59,7 +59,7 @@ unfoldable pub sameBool : Bool → Bool → Bool
 sameBool true b = b
 sameBool false b = not b
 
--- two keys are one: source, destination, TO and tag
+-- whether two keys are the same: source, destination, TO and tag all agree
 unfoldable pub sameKey : Key → Key → Bool
 sameKey a b =
     pick (sameEid (a .source) (b .source))

@@ -1,6 +1,6 @@
 // What stands on the wire: endpoint IDs, tags, types, cookies, the refusals, and the packet header of DSP0236.
-// Types that can't be mixed, after the crate `mctp`; the header after `libmctp`. Definitions: specs/Terms.antt, Header.antt.
-// Leans on `octets` for `pick` alone.
+// The types cannot be mixed up; they follow the crate `mctp`, and the header follows `libmctp`. Definitions: specs/Terms.antt, Header.antt.
+// Leans on `octets` for numbers in bytes.
 ghost use mathlib.Core.Path.{_≡_};
 ghost use Prim.Native.Nat.{_≤_, _<_};
 ghost use Rattle.octets.specs.Bytes.{le};
@@ -17,7 +17,7 @@ pub struct MsgIC(pub bool);
 
 pub struct AppCookie(pub u64);
 
-// A tag, and whose it is: owned has TO=1 on the wire.
+// A tag, and whose it is: an owned tag has TO=1 on the wire.
 pub enum Tag {
     Owned(TagValue),
     Unowned(TagValue),
@@ -39,7 +39,7 @@ pub enum Error {
     PoolShort,
 }
 
-// What a packet belongs to.
+// A packet's key, which tells the message that the packet belongs to.
 pub struct Key {
     pub source: Eid,
     pub dest: Eid,
@@ -183,7 +183,7 @@ pub fn bit_of(set: bool, n: u8) -> u8
     0
 }
 
-// The header of a packet; bad under 4 bytes or with another version.
+// The header of a packet; it is bad when the packet has under 4 bytes or another version.
 pub fn read_header(packet: &[u8]) -> HeaderRead
     ensures { λ r. ⌜ r ≡ headerOf (now (packet .entry)) ⌝ }
 {
@@ -221,7 +221,7 @@ pub fn flags(h: Header) -> u8
     som + (eom + (h.seq % 4 * 16 + (owner + h.key.tag.0 % 8)))
 }
 
-// Where the body starts: past the type byte with SOM.
+// Where the body starts: with SOM it starts past the type byte.
 pub fn body_start(som: bool) -> usize
     ensures { λ r. ⌜ r ≡ lead som ⌝ }
 {

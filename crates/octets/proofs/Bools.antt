@@ -1,4 +1,4 @@
--- Truth and falsehood: they are not one, and a test has one of the two values.
+-- True and false are different, and every test has one of the two values.
 use Prim.Native.Nat.{ℕ}
 use native.Mathlib.Omega.{arith}
 use mathlib.Core.Path.{_≡_, refl}

@@ -1,4 +1,4 @@
--- Loops over a list: one that replaces each element by its image, a store a turn; and what a place holds after a store or a map.
+-- Loops over a list: a loop that replaces each element by its image, one store at a time; and what a place holds after a store or a map.
 use Prim.Native.Nat.{ℕ, zero, suc, _+_, _≤_, _<_}
 use native.Mathlib.Numerals.{add-one}
 use native.Mathlib.Omega.{arith}
@@ -17,7 +17,7 @@ module _ {A : Type 0} (f : A → A) (l : List A) (i : ℕ) where
   pub each-done : length l ≤ i → take i l ++ map f (drop i l) ≡ l
   each-done h = rw (take-all i l h, drop-of-length-le l h, append-nil l)
 
--- the length of an array of structs that is a field of a struct: what `c .good` says of it is of its image
+-- the length of an array of structs that is a field of a struct: `c .good` tells the length of its image
 pub length-mapped : (X Y : Type 0) (f : X → Y) (l : List X) (n : ℕ) → length (map f l) ≡ n → length l ≡ n
 length-mapped X Y f l n e = sym (length-map l f) ∙ e
 

@@ -1,4 +1,4 @@
--- Laws of `find`: for a loop that walks a list upward, what the place found is, and what a store does to it.
+-- Laws of `find`, for a loop that walks a list upward: what it finds, and what a store changes in that.
 use Prim.Native.Nat.{ℕ, zero, suc, _+_, _≤_, _<_}
 use native.Mathlib.Omega.{arith}
 use mathlib.Core.Path.{_≡_, refl, sym, ap, _∙_}
@@ -30,7 +30,7 @@ module _ {A : Type 0} (p : A → Bool) where
   find-first (x ∷ l) zero d = pick-cases (λ (n : ℕ). 0 < n → p x ≡ false) (λ _ h. absurd (omega arith)) (λ f _. f)
   find-first (x ∷ l) (suc k) d = pick-cases (λ (n : ℕ). suc k < n → p (getD l k d) ≡ false) (λ _ h. absurd (omega arith)) (λ _ h. find-first l k d (omega arith))
 
-  -- none passes before i
+  -- where none passes before i, the place found is not before i
   pub find-least : (l : List A) (i : ℕ) (d : A) → i ≤ length l → ((k : ℕ) → k < i → p (getD l k d) ≡ false) → i ≤ find p l
   unfolding find pick
   find-least l zero d m f = omega arith
@@ -39,7 +39,7 @@ module _ {A : Type 0} (p : A → Bool) where
       let h = find-least l i d (omega arith) (λ k n. f (suc k) (omega arith)) in
       rw (f 0 (omega arith)) (omega arith)
 
-  -- a walk that has come to i knows `i ≤ find p l`. It ends with i where i passes or the list ends, and goes on elsewhere
+  -- a walk that has come to i knows `i ≤ find p l`. It ends with i where element i passes or the list ends, and otherwise it goes on
   pub here : (l : List A) (i : ℕ) (d : A) → i ≤ find p l → i < length l → p (getD l i d) ≡ true → i ≡ find p l
   unfolding find pick
   here [] i d h m t = absurd (omega arith)
@@ -60,28 +60,28 @@ module _ {A : Type 0} (p : A → Bool) where
   pub none : (l : List A) (i : ℕ) → i ≤ find p l → length l ≤ i → i ≡ find p l
   none l i h m = let b = find-bound l in omega arith
 
-  -- a place that passes, and none before it
+  -- a place that passes, with none before it that does, is the place found
   pub find-at : (l : List A) (i : ℕ) (d : A) → i < length l → p (getD l i d) ≡ true → ((k : ℕ) → k < i → p (getD l k d) ≡ false) → find p l ≡ i
   find-at l i d m t f = sym (here l i d (find-least l i d (omega arith) f) m t)
 
-  -- it passes nowhere: the length
+  -- where none passes, the place found is the length
   pub find-none : (l : List A) (d : A) → ((k : ℕ) → k < length l → p (getD l k d) ≡ false) → find p l ≡ length l
   find-none l d f = let a = find-least l (length l) d (omega arith) f in let b = find-bound l in omega arith
 
-  -- it passes within the list, where it does not at the default
+  -- where the default does not pass, a place that passes is within the list
   pub passes-in : (l : List A) (j : ℕ) (d : A) → p d ≡ false → p (getD l j d) ≡ true → j < length l
   passes-in [] j d n y = absurd (no-both y n)
   passes-in (x ∷ l) zero d n y = omega arith
   passes-in (x ∷ l) (suc j) d n y = let h = passes-in l j d n y in omega arith
 
-  -- a store that passes as what stood there leaves the place
+  -- a store leaves the place found where the new element passes exactly when the old one does
   pub find-set : (l : List A) (i : ℕ) (y d : A) → p y ≡ p (getD l i d) → find p (set l i y) ≡ find p l
   unfolding find
   find-set [] i y d e = refl
   find-set (x ∷ l) zero y d e = rw e
   find-set (x ∷ l) (suc i) y d e = rw (find-set l i y d e)
 
-  -- a store of an element that passes, with none before it that does
+  -- after a store of an element that passes, with none before it that does, its place is the place found
   pub find-set-here : (l : List A) (i : ℕ) (y : A) → i < length l → i ≤ find p l → p y ≡ true → find p (set l i y) ≡ i
   unfolding find pick
   find-set-here [] i y m h t = absurd (omega arith)
@@ -90,7 +90,7 @@ module _ {A : Type 0} (p : A → Bool) where
       let f : p x ≡ false = find-first (x ∷ l) 0 x (omega arith) in
       rw f (ap suc (find-set-here l i y (omega arith) (omega (arith, rw f at h)) t))
 
-  -- it passes somewhere
+  -- whether any element passes
   unfoldable pub some : List A → Bool
   some [] = false
   some (x ∷ l) = pick (p x) true (some l)
@@ -105,7 +105,7 @@ module _ {A : Type 0} (p : A → Bool) where
   some-snoc [] x = bool-cases (p x) (λ e. rw e) (λ e. rw e)
   some-snoc (y ∷ l) x = bool-cases (p y) (λ e. rw e) (λ e. rw e (some-snoc l x))
 
--- two tests that agree on each element
+-- two tests that agree on each element find the same place
 pub find-ext : {A : Type 0} (p q : A → Bool) (l : List A) (d : A) → ((i : ℕ) → i < length l → p (getD l i d) ≡ q (getD l i d)) → find p l ≡ find q l
 unfolding find
 find-ext p q [] d h = refl

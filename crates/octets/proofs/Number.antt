@@ -18,7 +18,7 @@ unfolding le
 length-le zero x = refl
 length-le (suc w) x = ap suc (length-le w (x / 256))
 
--- 256 to the w, by its digits
+-- 256 to the power w
 unfoldable pub top : ℕ → ℕ
 top zero = 1
 top (suc w) = 256 * top w
@@ -33,7 +33,7 @@ unfolding le num top
 num-le zero x h = omega arith
 num-le (suc w) x h = let i : num (le w (x / 256)) ≡ x / 256 = num-le w (x / 256) (omega arith) in omega arith
 
--- each below 256
+-- each number is below 256
 unfoldable pub Bytes : List ℕ → Type 0
 Bytes [] = Unit
 Bytes (b ∷ l) = (b < 256) × Bytes l
@@ -48,7 +48,7 @@ unfolding Bytes
 bytes-append [] t p q = q
 bytes-append (x ∷ s) t p q = (p .0, bytes-append s t (p .1) q)
 
--- what a slice of bytes says of its elements
+-- the elements of a slice of bytes are below 256
 pub bytes-slice : (s : List ℕ) → ((i : ℕ) → Fits w8 (getD s i 0)) → Bytes s
 unfolding Bytes
 bytes-slice [] h = tt
@@ -85,7 +85,7 @@ le-pair n m a b p q =
     let l : length s ≡ n + m = rw (length-append, length-le n a, length-le m b) in
     sym (rw (l, e) at (le-num s (bytes-append (le n a) (le m b) (bytes-le n a) (bytes-le m b))))
 
--- what two neighbours say together
+-- two fields side by side are one field
 pub field-pair : (at m n : ℕ) (b : List ℕ) → num (part at (m + n) b) ≡ num (part at m b) + top m * num (part (at + m) n b)
 unfolding num
 field-pair at m n b =
@@ -101,7 +101,7 @@ pub get-past : (at n : ℕ) (b : List ℕ) → length b ≤ at → 0 ≡ num (pa
 unfolding num
 get-past at n b h = rw (part-past at n b h)
 
--- the bytes of what the bytes say
+-- the number that bytes hold, written out again, gives those bytes
 pub le-field : (at w : ℕ) (s : List ℕ) → at + w ≤ length s → Bytes s → le w (num (part at w s)) ≡ part at w s
 le-field at w s h p = rw (length-part at w s h) at (le-num (part at w s) (bytes-part at w s p))
 
@@ -123,7 +123,7 @@ puts-lay at (f ∷ fs) b =
 pub puts-pack : (at : ℕ) (fs : List (ℕ × ℕ)) (b : List ℕ) → at + length (pack fs) ≤ length b → puts at fs b ≡ over at (pack fs) b
 puts-pack at fs b h = puts-lay at fs b ∙ lay-fits at (pack fs) b h
 
--- the same at the whole of a block
+-- the same, for a row that fills a whole block
 pub puts-whole : (fs : List (ℕ × ℕ)) (b : List ℕ) → length (pack fs) ≡ length b → puts 0 fs b ≡ pack fs
 puts-whole fs b e = puts-pack 0 fs b (omega arith) ∙ over-whole (length b) (pack fs) b e refl
 

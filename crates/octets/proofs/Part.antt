@@ -17,25 +17,25 @@ pub length-over : (at : ℕ) (s b : List ℕ) → at + length s ≤ length b →
 unfolding over
 length-over at s b h = let t : at ≤ length b = omega arith in rw (length-append, length-append, length-drop, length-take-le at b t) (omega arith)
 
--- drop by a sum whose first part is a length
+-- dropping the length of xs and n more from xs ++ ys drops n from ys
 drop-more : {A : Type 0} (xs ys : List A) (k n : ℕ) → k ≡ length xs + n → drop k (xs ++ ys) ≡ drop n ys
 drop-more xs ys k n e = rw e (drop-append-add xs ys n)
 
--- a part that ends in a front is a part of the whole
+-- a part that lies within the first w bytes is the same part of the whole
 part-take : (k n w : ℕ) (b : List ℕ) → k + n ≤ w → take n (drop k (take w b)) ≡ take n (drop k b)
 part-take zero n w b e = take-take n w b (omega arith)
 part-take (suc k) n zero b e = let z : n ≡ 0 = omega arith in rw z
 part-take (suc k) n (suc w) [] e = refl
 part-take (suc k) n (suc w) (x ∷ b) e = part-take k n w b (omega arith)
 
--- what was put is there
+-- what was stored is there
 pub part-same : (at n : ℕ) (s b : List ℕ) → length s ≡ n → at + n ≤ length b → part at n (over at s b) ≡ s
 unfolding part over
 part-same at n s b e h =
     let l : length (take at b) ≡ at = length-take-le at b (omega arith) in
     rw (drop-at (take at b) (s ++ drop (at + length s) b) at l, take-at s (drop (at + length s) b) n e)
 
--- what ends before is untouched
+-- a part that ends before a store is untouched
 pub part-below : (at k n : ℕ) (s b : List ℕ) → k + n ≤ at → at ≤ length b → part k n (over at s b) ≡ part k n b
 unfolding part over
 part-below at k n s b e h =
@@ -54,17 +54,17 @@ drop-over k at s b e h =
     let g : (at + length s) + j ≡ k = omega arith in
     rw (drop-more (take at b) (s ++ drop (at + length s) b) k (length s + j) f, drop-append-add s (drop (at + length s) b) j, drop-drop j (at + length s) b, g)
 
--- what starts after is untouched
+-- a part that starts after a store is untouched
 pub part-above : (at k n : ℕ) (s b : List ℕ) → at + length s ≤ k → at + length s ≤ length b → part k n (over at s b) ≡ part k n b
 unfolding part
 part-above at k n s b e h = rw (drop-over k at s b e h)
 
--- one byte
+-- a store of one byte
 pub over-set : (at x : ℕ) (b : List ℕ) → at < length b → set b at x ≡ over at (x ∷ []) b
 unfolding over
 over-set at x b h = rw (set-split b at x h, add-one)
 
--- two stores, side by side
+-- two stores side by side are one
 pub over-over : (at k : ℕ) (s t b : List ℕ) → at + length s ≡ k → k + length t ≤ length b → over k t (over at s b) ≡ over at (s ++ t) b
 unfolding over
 over-over at k s t b e h =
@@ -110,7 +110,7 @@ pub part-whole : (n : ℕ) (b : List ℕ) → length b ≡ n → part 0 n b ≡ 
 unfolding part
 part-whole n b e = take-all n b (omega arith)
 
--- a store to the front of the whole
+-- a store over the whole buffer
 pub over-whole : (n : ℕ) (s b : List ℕ) → length s ≡ n → length b ≡ n → over 0 s b ≡ s
 unfolding over
 over-whole n s b e h = let z : length b ≤ 0 + length s = omega arith in rw (drop-of-length-le b z, append-nil s)
@@ -156,14 +156,14 @@ lay-past at s [] h = refl
 lay-past zero s (y ∷ b) h = absurd (omega arith)
 lay-past (suc at) s (y ∷ b) h = ap (λ (l : List ℕ). y ∷ l) (lay-past at s b (omega arith))
 
--- one byte
+-- a store of one byte
 pub lay-set : (at x : ℕ) (b : List ℕ) → set b at x ≡ lay at (x ∷ []) b
 unfolding lay
 lay-set at x [] = refl
 lay-set zero x (y ∷ b) = ap (λ (l : List ℕ). x ∷ l) (sym (lay-nil zero b))
 lay-set (suc at) x (y ∷ b) = ap (λ (l : List ℕ). y ∷ l) (lay-set at x b)
 
--- two, side by side
+-- two stores side by side are one
 pub lay-next : (at : ℕ) (s t b : List ℕ) → lay (at + length s) t (lay at s b) ≡ lay at (s ++ t) b
 unfolding lay
 lay-next at s t [] = refl
@@ -174,7 +174,7 @@ lay-next (suc at) s t (y ∷ b) = rw suc-add (ap (λ (l : List ℕ). y ∷ l) (l
 pub lay-lay : (at k : ℕ) (s t b : List ℕ) → at + length s ≡ k → lay k t (lay at s b) ≡ lay at (s ++ t) b
 lay-lay at k s t b e = rw (sym e) (lay-next at s t b)
 
--- where all fits it is a store
+-- where all of it fits, it is a plain store
 pub lay-fits : (at : ℕ) (s b : List ℕ) → at + length s ≤ length b → lay at s b ≡ over at s b
 unfolding lay over
 lay-fits zero [] [] h = refl
@@ -184,12 +184,12 @@ lay-fits zero [] (y ∷ b) h = refl
 lay-fits zero (x ∷ s) (y ∷ b) h = rw zero-add (ap (λ (l : List ℕ). x ∷ l) (rw zero-add at (lay-fits zero s b (omega arith))))
 lay-fits (suc at) s (y ∷ b) h = rw suc-add (ap (λ (l : List ℕ). y ∷ l) (lay-fits at s b (omega arith)))
 
--- over the front
+-- a store over the front
 pub lay-front : (s b : List ℕ) → length s ≤ length b → lay 0 s b ≡ s ++ drop (length s) b
 unfolding over
 lay-front s b h = rw zero-add at (lay-fits 0 s b (omega arith))
 
--- what lies past the end of b may be cut off first
+-- what would lie past the end of b may be cut off first
 pub lay-clip : (n : ℕ) (s b : List ℕ) → min (length s) (length b) ≤ n → lay 0 (take n s) b ≡ lay 0 s b
 unfolding lay
 lay-clip n s [] h = refl

@@ -1,4 +1,4 @@
--- Laws of a region of equal blocks: what a store of one block makes of the elements, and of the others.
+-- Laws of a region of blocks of equal width: what a store of one block does to its element, and to the others.
 use Prim.Native.Nat.{ℕ, zero, suc, _+_, _*_, _≤_, _<_}
 use native.Mathlib.Nat.{add-zero, mul-suc, mul-zero}
 use native.Mathlib.Omega.{arith}
@@ -51,7 +51,7 @@ module _ {A : Type 0} (C : Codec A) where
   pub holds-as : (at : ℕ) (b b′ : List ℕ) → part at (C .width) b′ ≡ part at (C .width) b → Holds C at b → Holds C at b′
   holds-as at b b′ e h = record { same = rw e (h .same); ok = rw e (h .ok) }
 
-  -- a store that ends before the region, or starts after it
+  -- a store that ends before the region or starts after it leaves the elements
   pub region-after : (n at k : ℕ) (s b : List ℕ) → k + length s ≤ at → k + length s ≤ length b → region C n at (over k s b) ≡ region C n at b
   unfolding region
   region-after zero at k s b h l = refl
@@ -76,7 +76,7 @@ module _ {A : Type 0} (C : Codec A) where
       let u : at + C .width ≤ place (C .width) (at + C .width) n = place-up (C .width) (at + C .width) n in
       (holds-as at b (over k s b) (part-below k at (C .width) s b (omega arith) l) (r .0), regular-before n (at + C .width) k s b h l (r .1))
 
-  -- a store of block i
+  -- a store of block i replaces element i and leaves the others
   module _ (L : Lawful C) (x : A) (ok : C .Ok x) (b : List ℕ) where
     pub region-put : (n at i : ℕ) → i < n → place (C .width) at n ≤ length b → region C n at (over (place (C .width) at i) (C .enc x) b) ≡ set (region C n at b) i x
     unfolding region place
@@ -127,7 +127,7 @@ part-zeros zero w m h = take-zeros w m (omega arith)
 part-zeros (suc at) w zero h = absurd (omega arith)
 part-zeros (suc at) w (suc m) h = part-zeros at w m (omega arith)
 
--- a buffer of zeros is regular, where zeros are the bytes of an element
+-- a buffer of zeros is regular where zeros are the bytes of an element
 module _ {A : Type 0} (C : Codec A) (same : C .enc (C .dec (replicate (C .width) 0)) ≡ replicate (C .width) 0) (ok : C .Ok (C .dec (replicate (C .width) 0))) where
   pub zeros-hold : (at m : ℕ) → at + C .width ≤ m → Holds C at (replicate m 0)
   zeros-hold at m h = record { same = rw (part-zeros at (C .width) m h) (sym same); ok = rw (part-zeros at (C .width) m h) ok }

@@ -5,5 +5,5 @@ use Rattle.octets.specs.Pick.{pick-true, pick-false}
 
 pub ruleset tests = (needs, le-ltb, lt-ltb, le-leb, lt-leb, eq-eqb, ne-eqb, not-true, not-false)
 
--- for a definition of `pick`s: no branch need be listed
+-- for a definition of `pick`s: no branch needs to be listed
 pub ruleset picks = (pick-true, pick-false, le-ltb, lt-ltb, le-leb, lt-leb, eq-eqb, ne-eqb)

@@ -1,5 +1,5 @@
--- A choice by a test that stays shut, with its laws.
--- So a goal keeps its size, and `search` finds the test's value among the branches taken.
+-- A choice by a test, with its laws. It unfolds only where a proof asks for it,
+-- so goals stay small, and `search` finds the test's value among the branches taken.
 -- Leans on nothing.
 use mathlib.Core.Path.{_≡_, refl}
 use mathlib.Core.Bool.{Bool, true, false}
@@ -17,7 +17,7 @@ module _ {A : Type 0} where
   unfolding pick
   pick-false b x y e = rw e
 
-  -- by cases: what holds of both branches, each under its test
+  -- proof by cases: what holds of each branch under its test holds of the choice
   pub pick-cases : (P : A → Type 0) {b : Bool} {x y : A} → (b ≡ true → P x) → (b ≡ false → P y) → P (pick b x y)
   unfolding pick
   pick-cases P {b = true} t f = t refl

@@ -1,6 +1,6 @@
-// The floor of all crates: bytes of a buffer as little-endian numbers, at any place. A byte past the end reads as 0, and is not written.
+// The ground floor of all crates: it reads and writes little-endian numbers at any place of a buffer. A byte past the end reads as 0, and is not written.
 // specs/ and proofs/ hold the definitions and laws of parts, numbers, regions, choices and first places that the other crates cite.
-// Leans on the kit alone.
+// Leans on the toolchain's library alone.
 ghost use mathlib.Core.Path.{_≡_};
 ghost use Prim.Native.Nat.{min};
 ghost use Rattle.octets.specs.Bytes.{le, field, lay};

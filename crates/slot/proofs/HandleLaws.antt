@@ -1,4 +1,4 @@
--- The next number of a handle has its range.
+-- The next number of a handle is within 64 bits.
 use Prim.Native.Nat.{ℕ, _^_, _<_}
 use native.Mathlib.Omega.{arith}
 use borrow.Author.Tests.{ltb-true}

@@ -26,7 +26,7 @@ use Rattle.slot.specs.Search.{slotFor, earliest}
 use Rattle.octets.proofs.Bools.{no-both}
 use Rattle.stamp.proofs.Order.{earlier-irreflexive, earlier-asymmetric, not-earlier-trans}
 
--- why a slot is found: it collects under the header's key, or is empty; for a bad header it is empty
+-- why a slot is found: it collects under the header's key or is empty; for a bad header it is empty
 abbrev pub FoundFor : HeaderRead → Reassembler → Type 0
 FoundFor (Good h) s = (collects (h .key) s ≡ true) ⊎ (isEmpty s ≡ true)
 FoundFor Bad s = isEmpty s ≡ true
@@ -74,7 +74,7 @@ pub same-ltb : (a b c d : ℕ) → (a < b → c < d) → (c < d → a < b) → l
 same-ltb a b c d f g =
     same-test (ltb a b) (ltb c d) (λ e. lt-ltb c d (f (ltb-true a b e))) (λ e. lt-ltb a b (g (ltb-true c d e)))
 
--- a choice among places of a tail, as places of the list
+-- a choice among the places of a tail is one among places of the list
 shifted : (i e j : ℕ) → j ≡ suc i + e → (a b c d : Bool)
     → i + pick a (pick b (pick c (pick d (suc e) 0) 0) (suc e)) (suc e) ≡ pick a (pick b (pick c (pick d j i) i) j) j
 unfolding pick
@@ -89,14 +89,14 @@ abbrev pub stampAt : List Reassembler → ℕ → EventStamp
 stampAt l n = (getD l n blankSlot) .stamp
 
 module _ (f : Reassembler → Bool) where
-  -- done, with no handle out, and the test passes
+  -- the slot is done with no handle out, and passes the test
   abbrev pub Passes : Reassembler → Type 0
   Passes s = (isDone s ≡ true) × (f s ≡ true)
 
   no-blank : Passes blankSlot → ⊥
   no-blank q = no-both (q .0) refl
 
-  -- the first slot is taken where it passes and none behind it is earlier; otherwise the one behind it stays
+  -- the first slot is taken where it passes and none behind it is earlier; otherwise what was found behind it stays
   earliest-cases : (P : ℕ → Type 0) (s : Reassembler) (l : List Reassembler)
       → (Passes s → (earliest f l < length l → earlier (stampAt l (earliest f l)) (s .stamp) ≡ false) → P 0)
       → ((Passes s → (earliest f l < length l) × (earlier (stampAt l (earliest f l)) (s .stamp) ≡ true)) → P (suc (earliest f l)))
@@ -149,7 +149,7 @@ module _ (f : Reassembler → Bool) where
       (λ _ g. not-earlier-trans (stampAt l k) (stampAt l (earliest f l)) (s .stamp) m (g (earliest-some l k q)))
       (λ _. m)
 
-  -- one at a lower index that is done and passes has a later stamp: of equals the lowest index is found
+  -- a slot at a lower index that is done and passes has a later stamp, so of equal stamps the lowest index is found
   pub earliest-first : (l : List Reassembler) (k : ℕ) → Passes (getD l k blankSlot) → k < earliest f l → earlier (stampAt l (earliest f l)) (stampAt l k) ≡ true
   earliest-first [] k q = λ _. absurd (no-blank q)
   earliest-first (s ∷ l) zero q =
@@ -164,7 +164,7 @@ module _ (f : Reassembler → Bool) where
   unfolding earliest
   earliest-end slots = rw (drop-length slots) (omega arith)
 
-  -- and keeps i + earliest f (drop i slots): from j, what it was for the slots behind i, this is what it is with slot i
+  -- and at slot i it has i + earliest f (drop i slots), which it gets from j, the same for the slots behind i
   pub earliest-down : (slots : List Reassembler) (i j : ℕ) → i < length slots → j ≡ suc i + earliest f (drop (suc i) slots)
       → i + earliest f (drop i slots)
       ≡ pick (isDone (getD slots i blankSlot))

@@ -1,5 +1,5 @@
--- A slot's state by its number: the tests of `is_empty` and its like are those of the definitions.
--- Each law goes by the four states.
+-- A slot's state by its number: `is_empty` and the tests like it are those of the definitions.
+-- Each law goes through the four states.
 use Prim.Native.Nat.{ℕ}
 use native.Mathlib.Omega.{arith}
 use mathlib.Core.Path.{_≡_, refl}
@@ -32,14 +32,14 @@ out-three Collecting = refl
 out-three Done = refl
 out-three (HandleOut n) = refl
 
--- state 1 asks the key
+-- in state 1 the key decides
 pub one-collects : (s : State) (same : Bool) → stateNo s ≡ 1 → collectsIn s same ≡ same
 one-collects Empty same e = absurd (omega arith)
 one-collects Collecting same e = refl
 one-collects Done same e = absurd (omega arith)
 one-collects (HandleOut n) same e = absurd (omega arith)
 
--- any other matches nothing
+-- a slot in any other state matches nothing
 pub others-match-nothing : (s : State) (same : Bool) → (stateNo s ≡ 1 → ⊥) → collectsIn s same ≡ false
 others-match-nothing Empty same e = refl
 others-match-nothing Collecting same e = absurd (e refl)

@@ -6,7 +6,7 @@ use lib.Dec.{ltb}
 use Rattle.octets.specs.Pick.{pick}
 use Rattle.slot.specs.declared.ReceiveHandle.{ReceiveHandle}
 
--- the number of the next handle that goes out: one count for the whole stack, staying at 2^64 - 1
+-- the number of the next handle that goes out: one count serves the whole stack, and it stays at 2^64 - 1
 unfoldable pub nextIssue : ℕ → ℕ
 nextIssue n = pick (ltb n 18446744073709551615) (n + 1) n
 

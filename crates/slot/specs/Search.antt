@@ -1,5 +1,5 @@
--- Which slot: of a list of slots of any length.
--- The first that collects the key, else the first empty one; and the earliest that is done.
+-- Which slot a search finds in a list of slots of any length:
+-- the first that collects the key, else the first empty one; and the earliest that is done.
 -- Leans on `find`, and on specs/Slot.antt.
 use Prim.Native.Nat.{ℕ, zero, suc}
 use mathlib.Core.Bool.{Bool, true, false}
@@ -20,7 +20,7 @@ slotFor Bad slots = find isEmpty slots
 slotFor (Good h) slots =
     pick (ltb (find (collects (h .key)) slots) (length slots)) (find (collects (h .key)) slots) (find isEmpty slots)
 
--- the earliest done slot that passes, lowest index on a tie, or the number of slots; one with a handle out is passed over
+-- the earliest done slot that passes, the lowest index of equal stamps, or the number of slots; a slot with a handle out is passed over
 unfoldable pub earliest : (Reassembler → Bool) → List Reassembler → ℕ
 earliest f [] = 0
 earliest f (s ∷ l) =

@@ -1,5 +1,5 @@
--- A slot: empty, collecting, or done; done has a handle out or not (docs/RULES.md 37).
--- What it answers to, and what a handle does to it.
+-- A slot is empty, collecting or done; a done slot has a handle out or not (docs/RULES.md 37).
+-- What a slot matches, and what a handle and time do to it.
 -- Leans on `mctp` for keys, on `stamp` for time.
 use Prim.Native.Nat.{ℕ}
 use mathlib.Core.Bool.{Bool, true, false, not}
@@ -73,18 +73,18 @@ issueIs m (HandleOut n) = eqb n m
 abbrev pub isEmpty : Reassembler → Bool
 isEmpty s = emptyState (s .state)
 
--- done, with no handle out (a slot whose handle is out is `handleTaken`)
+-- whether it is done with no handle out (a slot whose handle is out is `handleTaken`)
 abbrev pub isDone : Reassembler → Bool
 isDone s = doneState (s .state)
 
 abbrev pub handleTaken : Reassembler → Bool
 handleTaken s = outState (s .state)
 
--- the handle of that number is out
+-- whether the handle of that number is out
 abbrev pub handleIs : ℕ → Reassembler → Bool
 handleIs issue s = issueIs issue (s .state)
 
--- collecting under that key: a done slot matches nothing
+-- whether a slot in that state collects a packet, given whether the packet has its key: only a collecting slot does
 abbrev pub collectsIn : State → Bool → Bool
 collectsIn Empty same = false
 collectsIn Collecting same = same
@@ -94,11 +94,11 @@ collectsIn (HandleOut n) same = false
 abbrev pub collects : Key → Reassembler → Bool
 collects k s = collectsIn (s .state) (sameKey (s .key) k)
 
--- from that peer, under that TO and tag; the destination is not looked at
+-- whether it is from that peer, under that TO and tag; the destination is not looked at
 unfoldable pub keptUnder : Eid → Bool → TagValue → Reassembler → Bool
 keptUnder peer owner tag s = pick (sameEid (s .key .source) peer) (pick (sameBool (s .key .owner) owner) (sameTag (s .key .tag) tag) false) false
 
--- a cancel frees it: not empty, a reply of that peer and tag
+-- whether a cancel looks for it: it is not empty, and holds a reply of that peer and tag
 unfoldable pub isReply : Eid → TagValue → Reassembler → Bool
 isReply peer tag s = pick (isEmpty s) false (keptUnder peer false tag s)
 
@@ -117,7 +117,7 @@ timeIn (HandleOut n) t = Untimed
 abbrev pub slotTimeout : ℕ → Reassembler → Timeout
 slotTimeout now s = timeIn (s .state) (timeoutOf (s .stamp) now slotTime)
 
--- an expired slot is empty, any other is as it was
+-- an expired slot becomes empty, any other stays as it was
 unfoldable pub fadedSlot : ℕ → Reassembler → Reassembler
 fadedSlot now s = pick (isExpired (slotTimeout now s)) blankSlot s
 

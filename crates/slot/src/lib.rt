@@ -1,5 +1,5 @@
-// A slot: a record by value. Its states, what it answers to, what a handle and time do to it, after the Rust's `Reassembler` in src/reassemble.rs.
-// And the handle that goes out with a message. Definitions: specs/Slot.antt; which slot of a list: specs/Search.antt; the handle: specs/Handle.antt.
+// A slot as a record by value, after the Rust's `Reassembler` in src/reassemble.rs: its states, what it matches, what a handle and time do to it.
+// The handle that goes out with a message is here too. Definitions: specs/Slot.antt; which slot of a list: specs/Search.antt; the handle: specs/Handle.antt.
 // Leans on `mctp` for the key, on `stamp` for time.
 ghost use mathlib.Core.Path.{_≡_};
 ghost use mathlib.Core.Bool.{false};
@@ -46,7 +46,7 @@ pub struct Reassembler {
     pub next_seq: u8,
     pub len: usize,
     pub cookie: Cookie,
-    // of SOM while collecting, of EOM when done
+    // the stamp of SOM while collecting, of EOM when done
     pub stamp: EventStamp,
 }
 
@@ -99,21 +99,21 @@ impl Reassembler {
         self.phase() == 0
     }
 
-    // Done, with no handle out.
+    // Whether it is done with no handle out.
     pub fn is_done(self) -> bool
         ensures { λ r. ⌜ r ≡ isDone self ⌝ }
     {
         self.phase() == 2
     }
 
-    // A handle is out.
+    // Whether a handle is out.
     pub fn handle_taken(self) -> bool
         ensures { λ r. ⌜ r ≡ handleTaken self ⌝ }
     {
         self.phase() == 3
     }
 
-    // The handle of that issue number is out.
+    // Whether the handle of that issue number is out.
     pub fn handle_is(self, issue: u64) -> bool
         ensures { λ r. ⌜ r ≡ handleIs issue self ⌝ }
     {
@@ -126,7 +126,7 @@ impl Reassembler {
         }
     }
 
-    // The record in another state, under another cookie.
+    // The same slot in another state and under another cookie.
     fn with(self, state: State, cookie: Cookie) -> Reassembler
         ensures { λ r. ⌜ r ≡ withState state (withSlotCookie cookie self) ⌝ }
     {
@@ -167,7 +167,7 @@ impl Reassembler {
         self.with(state, cookie)
     }
 
-    // What is left of the slot's time: none runs for an empty slot or one with a handle out.
+    // What is left of the slot's time; no time runs for an empty slot or one with a handle out.
     pub fn check_expired(self, now: u64) -> Timeout
         ensures { λ r. ⌜ r ≡ slotTimeout now self ⌝ }
     {
@@ -182,7 +182,7 @@ impl Reassembler {
     }
 }
 
-// From that peer, under that TO and tag.
+// Whether it is from that peer, under that TO and tag.
 pub fn is_from(s: Reassembler, peer: Eid, owner: bool, tag: TagValue) -> bool
     ensures { λ r. ⌜ r ≡ keptUnder peer owner tag s ⌝ }
 {
@@ -196,7 +196,7 @@ pub fn is_from(s: Reassembler, peer: Eid, owner: bool, tag: TagValue) -> bool
     false
 }
 
-// A reply of that peer and tag, in a slot that is not empty.
+// Whether the slot is not empty and holds a reply of that peer and tag.
 pub fn is_reply(s: Reassembler, peer: Eid, tag: TagValue) -> bool
     ensures { λ r. ⌜ r ≡ isReply peer tag s ⌝ }
 {

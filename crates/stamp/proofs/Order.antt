@@ -1,4 +1,4 @@
--- The order of stamps is strict and total, and a next event is later than every stamp given before at that clock, until the counter stays.
+-- The order of stamps is strict and total. The next event is later than every stamp given before, until the counter is at its largest value.
 use Prim.Native.Nat.{ℕ, _+_, _<_, _≤_}
 use native.Mathlib.Omega.{arith}
 use mathlib.Core.Path.{_≡_, refl, sym, ap, _∙_}
@@ -47,7 +47,7 @@ less m n = go (ltb m n) (ltb n m) refl refl
     go false true e f = inr (inr (ltb-true n m f))
     go false false e f = inr (inl (omega (arith, ltb-false m n e, ltb-false n m f)))
 
--- of two stamps one is earlier, or they are one
+-- of two stamps one is earlier, or they are equal
 pub total : (a b : EventStamp) → (earlier a b ≡ true) ⊎ ((a ≡ b) ⊎ (earlier b a ≡ true))
 total a b =
     ⊎-elim (λ (h : a .clock < b .clock). inl (is-earlier a b (record { order = inl h })))
@@ -97,7 +97,7 @@ earlier-irreflexive a = fails (earlier a a) (λ e. never a (earlier-is a a e .or
 pub earlier-asymmetric : (a b : EventStamp) → earlier a b ≡ true → earlier b a ≡ false
 earlier-asymmetric a b e = fails (earlier b a) (λ f. never a (chain a b a (earlier-is a b e .order) (earlier-is b a f .order)))
 
--- a is not before b, b not before c: a is not before c
+-- where a is not before b and b is not before c, a is not before c
 pub not-earlier-trans : (a b c : EventStamp) → earlier a b ≡ false → earlier b c ≡ false → earlier a c ≡ false
 not-earlier-trans a b c e f = fails (earlier a c) (λ g. go g (total a b))
   where

@@ -13,11 +13,11 @@ unfoldable pub leastLeft : List Timeout → ℕ → ℕ
 leastLeft [] least = least
 leastLeft (t ∷ l) least = leastLeft l (soonerOf t least)
 
--- one of them is expired, or one before was
+-- whether one of them is expired, or one before them was
 unfoldable pub anyExpired : List Timeout → Bool → Bool
 anyExpired [] any = any
 anyExpired (t ∷ l) any = anyExpired l (pick (isExpired t) true any)
 
--- what a check finds, going on from what it found before
+-- what a check finds, added to what it found before
 abbrev pub checkOf : List Timeout → Check → Check
 checkOf l c = record { least = leastLeft l (c .least); expired = anyExpired l (c .expired) }

@@ -1,5 +1,5 @@
 // A clock and a counter that order events, after the Rust's `EventStamp`.
-// Age, what is left of a timeout and expiry are told from the clock alone. Definitions: specs/Stamp.antt, specs/Checks.antt.
+// Age, expiry and what is left of a timeout depend on the clock alone. Definitions: specs/Stamp.antt, specs/Checks.antt.
 // Leans on `octets` for `pick` alone.
 ghost use mathlib.Core.Path.{_≡_};
 ghost use mathlib.Core.List.{_∷_, []};
@@ -7,13 +7,13 @@ ghost use Rattle.stamp.specs.Checks.{checkOf};
 ghost use Rattle.stamp.specs.Stamp.{next, clocked, earlier, timeoutOf, isExpired, soonerOf};
 ghost use Prim.Native.Nat.{_≤_, min};
 
-// Ordered by clock and then counter.
+// Stamps are ordered by clock and then by counter.
 pub struct EventStamp {
     pub clock: u64,
     pub counter: u32,
 }
 
-// What is left of a timeout: nothing runs, it is over, or so many milliseconds.
+// What is left of a timeout: no time runs, the time is over, or so many milliseconds are left.
 pub enum Timeout {
     Untimed,
     Expired,
@@ -31,7 +31,7 @@ impl Timeout {
         }
     }
 
-    // The least of a time and what is left.
+    // The smaller of a time and what is left.
     pub fn sooner(self, least: u32) -> u32
         ensures { λ r. ⌜ (r ≡ soonerOf self least) × (r ≤ least) ⌝ }
     {
@@ -113,7 +113,7 @@ pub struct Check {
 }
 
 impl Check {
-    // The same with one time more: the sooner of the two, and expired where either is.
+    // The check with one more time noted: the sooner of the two, and expired where either is.
     pub fn noted(self, t: Timeout) -> Check
         ensures { λ r. ⌜ r ≡ checkOf (t ∷ []) self ⌝ }
     {

@@ -1,4 +1,4 @@
--- `is_reply` tells a slot that a cancel frees: `is_empty` and then `is_from`, as the definition asks.
+-- `is_reply` tells a slot that a cancel looks for: `is_empty` and then `is_from`, as the definition asks.
 use mathlib.Core.Path.{sym, _∙_}
 use borrow.Author.Needs.{needs}
 use Rattle.octets.proofs.Tests.{picks}

@@ -1,4 +1,4 @@
--- `check_timeout` is `timeoutOf`: later than now, older than the timeout, or what is left.
+-- `check_timeout` is `timeoutOf`: a stamp is later than now, or older than the timeout, or has something left.
 use borrow.Author.Needs.{needs}
 use Rattle.octets.proofs.Tests.{picks}
 use Rattle.stamp.specs.Stamp.{timeoutOf, expired}
