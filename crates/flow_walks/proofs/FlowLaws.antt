@@ -1,4 +1,4 @@
--- Laws of the walks over the flows: the word that tells whose a place is, and the next event.
+-- Laws of the walks over the flows: the word that tells which peer and tag a place belongs to, and the next event.
 use Prim.Native.Nat.{_+_, _*_, _<_, ℕ}
 use native.Mathlib.Omega.{arith}
 use mathlib.Core.Path.{_≡_, refl, sym, subst, _∙_}

@@ -28,11 +28,11 @@ use Rattle.state.specs.Stack.{Stack, Kept, Becomes, stackOf, flowAt}
 use Rattle.state.proofs.StackLaws.{flows-length, stays, andThen}
 use Rattle.flow_walks.specs.FlowWalks.{tableOf, withTable}
 
--- from b comes b′ with the table that r has, and g is what r grants
+-- the bytes b become b′, which hold the table of r, and g is what r grants
 abbrev pub Sent : Sizes → List ℕ → List ℕ → Stack → Granted → Flowed → Type 0
 Sent z b b′ st g r = (g ≡ r .granted) × Becomes z b b′ (withTable (r .table) st)
 
--- the same, said otherwise
+-- the same, written in another way
 pub sent-as : (z : Sizes) (b b′ : List ℕ) (st : Stack) (g : Granted) (r s : Flowed) → r ≡ s → Sent z b b′ st g r → Sent z b b′ st g s
 sent-as z b b′ st g r s e h = subst (λ (x : Flowed). Sent z b b′ st g x) e h
 

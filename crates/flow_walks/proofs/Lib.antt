@@ -1,3 +1,3 @@
--- Whose a place is; a send's flow by its parts.
+-- The laws of the walks: which peer and tag a place belongs to, and the parts of a send's flow.
 pub mod FlowLaws
 pub mod FlowSends

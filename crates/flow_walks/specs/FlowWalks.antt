@@ -1,5 +1,5 @@
 -- The part of a stack that a send looks at, and the stack with it changed.
--- What a walk over the flows looks for is `flows`' own.
+-- What a walk over the flows looks for is defined in `flows`.
 -- Leans on `flows` for the table, on `state` for the stack.
 use Prim.Native.Nat.{ℕ}
 use mathlib.Core.Bool.{Bool}
@@ -28,6 +28,6 @@ withTable t st = record {
   slots = st .slots;
 }
 
--- a flow's first four bytes are that number
+-- whether a flow's first four bytes are that number
 abbrev pub hasFlowWord : ℕ → Flow → Bool
 hasFlowWord w f = eqb (flowWord f) w

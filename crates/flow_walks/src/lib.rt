@@ -1,6 +1,6 @@
 // Walks over the flows of a state kept in bytes: which place, the used tags, a flow set or removed, a check of time.
 // Each touches only what it needs. Definitions: specs/FlowWalks.antt, and those of `flows` and `state`.
-// Leans on `state` for the bytes, on `flows` for one flow's part, on `state` for the check and for events.
+// Leans on `state` for the bytes and for events, on `flows` for one flow's part, on `stamp` for the check of time.
 ghost use mathlib.Core.Path.{_≡_};
 ghost use mathlib.Core.List.{map, _∷_, []};
 ghost use Prim.Native.Nat.{_+_, _≤_, _<_, _^_};
@@ -36,7 +36,7 @@ fn find_flow_word(state: &[u8], sizes: Sizes, w: u32) -> usize
     i
 }
 
-// The flow of that peer and tag, or 64.
+// The place of the flow of that peer and tag, or 64 where there is none.
 pub fn find_flow(state: &[u8], sizes: Sizes, peer: Eid, tag: TagValue) -> usize
     requires { ⌜ Kept sizes (now state) ⌝ }
     ensures { λ r. ⌜ (r ≡ flowPlace peer tag (stackOf sizes (now (state .entry)) .flows)) × (r ≤ flowCount) ⌝ }
@@ -48,7 +48,7 @@ pub fn find_flow(state: &[u8], sizes: Sizes, peer: Eid, tag: TagValue) -> usize
     )
 }
 
-// The first place that holds no flow, or 64.
+// The first place that holds no flow, or 64 where all hold one.
 fn find_free(state: &[u8], sizes: Sizes) -> usize
     requires { ⌜ Kept sizes (now state) ⌝ }
     ensures { λ r. ⌜ (r ≡ find isFree (stackOf sizes (now (state .entry)) .flows)) × (r ≤ flowCount) ⌝ }
@@ -80,7 +80,7 @@ pub fn used_tags(state: &[u8], sizes: Sizes, peer: Eid) -> u8
     used
 }
 
-// The flow of that peer and tag goes; absent is no error.
+// Removes the flow of that peer and tag; it is no error where there is none.
 pub fn remove_flow(state: &mut [u8], sizes: Sizes, peer: Eid, tag: TagValue)
     requires { ⌜ Kept sizes (now state) ⌝ }
     ensures { λ _. ⌜ Becomes sizes (now (state .entry)) (now (state .exit)) (withFlows (removed peer tag (stackOf sizes (now (state .entry)) .flows)) (stackOf sizes (now (state .entry)))) ⌝ }
@@ -102,7 +102,7 @@ fn counted(state: &mut [u8], sizes: Sizes, expires: bool) -> EventStamp
     state::now_at(state, sizes)
 }
 
-// A new flow in the first free place; one that expires counts an event, even when the table is full.
+// Puts a new flow in the first free place; one that expires counts an event, even when the table is full.
 fn insert_flow(
     state: &mut [u8],
     sizes: Sizes,
@@ -124,7 +124,7 @@ fn insert_flow(
     Granted::Refused(Error::TagUnavailable)
 }
 
-// A flow under a fresh tag: the counter goes up even if none is free.
+// A flow under a fresh tag: the tag counter goes up even if no tag is free.
 fn fresh_flow(state: &mut [u8], sizes: Sizes, peer: Eid, expires: bool, cookie: Cookie) -> Granted
     requires { ⌜ Kept sizes (now state) ⌝ }
     ensures { λ r. ⌜ (r ≡ freshFlow peer expires cookie (tableOf (stackOf sizes (now (state .entry)))) .granted) × Becomes sizes (now (state .entry)) (now (state .exit)) (withTable (freshFlow peer expires cookie (tableOf (stackOf sizes (now (state .entry)))) .table) (stackOf sizes (now (state .entry)))) ⌝ }
@@ -184,7 +184,7 @@ pub fn set_flow(
     }
 }
 
-// One flow of a check: expired, it goes.
+// Checks the time of one flow: an expired flow goes.
 fn expire_flow(state: &mut [u8], sizes: Sizes, i: usize, clock: u64, c: Check) -> Check
     requires { ⌜ Kept sizes (now state) × (i < flowCount) ⌝ }
     ensures { λ r. ⌜ (r ≡ checkOf (flowTimeout clock (flowAt i (stackOf sizes (now (state .entry)))) ∷ []) c) × Becomes sizes (now (state .entry)) (now (state .exit)) (withFlow i (fadedFlow clock (flowAt i (stackOf sizes (now (state .entry))))) (stackOf sizes (now (state .entry)))) ⌝ }
@@ -198,7 +198,7 @@ fn expire_flow(state: &mut [u8], sizes: Sizes, i: usize, clock: u64, c: Check) -
     found
 }
 
-// Expired flows go; what the check found goes on from `c`.
+// Checks the time of every flow: expired flows go, and what is found is added to `c`.
 pub fn expire_flows(state: &mut [u8], sizes: Sizes, clock: u64, c: Check) -> Check
     requires { ⌜ Kept sizes (now state) ⌝ }
     ensures { λ r. ⌜ (r ≡ checkOf (flowTimes clock (stackOf sizes (now (state .entry)))) c) × Becomes sizes (now (state .entry)) (now (state .exit)) (withFlows (map (fadedFlow clock) (stackOf sizes (now (state .entry)) .flows)) (stackOf sizes (now (state .entry)))) ⌝ }

@@ -1,4 +1,4 @@
--- A flow comes back from its 32 bytes, and their first four tell whose it is: each number fits its width.
+-- A flow is read back from its 32 bytes, since each number fits its width, and the first four tell which peer and tag it belongs to.
 use Prim.Native.Nat.{_+_, _*_, _<_}
 use native.Mathlib.Omega.{arith}
 use mathlib.Core.Path.{_≡_, refl}
@@ -91,7 +91,7 @@ module _ (f : Flow) (ok : FlowOk f) where
 pub flow-lawful : Lawful flowCodec
 flow-lawful = record { long = flow-long; back = flow-back }
 
--- the word of a place says whether it is that peer's and that tag's
+-- the word of a place says whether the place belongs to that peer and tag
 module _ (peer : Eid) (tag : TagValue) (f : Flow) (ok : FlowOk f) where
   pub word-is : isFlow peer tag f ≡ true → flowWord f ≡ 1 + 256 * (peer .0 + 256 * tag .0)
   word-is y = let i = is-flow peer tag f y in rw (i .used, i .peer, i .tag)

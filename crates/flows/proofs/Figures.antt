@@ -18,7 +18,7 @@ use Rattle.flows.specs.declared.Granted.the-variants.{Tag, Refused}
 use Rattle.flows.specs.Tags.{bitsOf, freeTagOf, freeCount}
 use Rattle.flows.specs.Table.{noFlow, isFlow, flowCookie, usedTags, newFlow, Table, insertFlow, withTag, freshFlow, fixedFlow, setFlow}
 
--- what a send asks of the table
+-- what a send asks the table for
 pub record Ask : Type 0 where
   pub peer : ℕ
   pub wish : Wish
@@ -93,7 +93,7 @@ pub fixed-expiry : grants (three true 7 ∷ three true 8 ∷ []) (places 64) ≡
 unfolding grants setFlow fixedFlow insertFlow newFlow isFlow find pick next
 fixed-expiry = refl
 
--- one without is taken again, and keeps its first cookie
+-- one that stands without expiry is used again, and keeps its first cookie
 pub fixed-again : grants (three false 7 ∷ three false 8 ∷ []) (places 64) ≡ tag 3 ∷ tag 3 ∷ []
 unfolding grants setFlow fixedFlow insertFlow newFlow isFlow find pick next
 fixed-again = refl

@@ -60,7 +60,7 @@ pub flow-is : (peer : Eid) (tag : TagValue) (f : Flow) → Is peer tag f → isF
 unfolding isFlow
 flow-is peer tag f i = true-all (i .used) (eq-eqb _ _ (i .peer)) (eq-eqb _ _ (i .tag))
 
--- a free place is no one's
+-- a free place belongs to no peer and tag
 pub free-not : (peer : Eid) (tag : TagValue) (f : Flow) → f .used ≡ false → isFlow peer tag f ≡ false
 unfolding isFlow
 free-not peer tag f e = pick-false (f .used) _ _ e
@@ -69,7 +69,7 @@ free-not peer tag f e = pick-false (f .used) _ _ e
 abbrev pub Other : Eid → TagValue → Eid → TagValue → Type 0
 Other peer tag p u = peer .0 ≡ p .0 → tag .0 ≡ u .0 → ⊥
 
--- a flow is of one peer and tag
+-- a flow belongs to one peer and tag only
 pub other-not : (peer : Eid) (tag : TagValue) (p : Eid) (u : TagValue) (f : Flow) → Other peer tag p u → Is peer tag f → isFlow p u f ≡ false
 other-not peer tag p u f o i =
     bool-cases (isFlow p u f) (λ y. let j = is-flow p u f y in absurd (o (sym (i .peer) ∙ j .peer) (sym (i .tag) ∙ j .tag))) (λ e. e)
@@ -107,7 +107,7 @@ same p u old new e q = record { stands = e; flow = q; cookie = ap (λ (f : Flow)
 -- ---- a store
 
 module _ (p : Eid) (u : TagValue) (l : List Flow) (i : ℕ) (x : Flow) where
-  -- of a flow that is not p's u over one that is not
+  -- a store of a flow that is not that of p and u, over another that is not, leaves what stands for p and u
   pub set-other : isFlow p u x ≡ false → isFlow p u (getD l i noFlow) ≡ false → Same p u l (set l i x)
   set-other n m = same p u l (set l i x) (rw (place, length-set)) (rw place there)
     where
@@ -124,13 +124,13 @@ module _ (p : Eid) (u : TagValue) (l : List Flow) (i : ℕ) (x : Flow) where
           (λ e. let g : length l ≤ k = ltb-false k (length l) e in
           List·getD-eq-default (set l i x) noFlow (rw length-set g) ∙ sym (List·getD-eq-default l noFlow g))
 
-  -- of p's u, which does not stand
+  -- a store of the flow of p and u, where none stands, puts it at its place
   pub set-there : i < length l → isFlow p u x ≡ true → standing p u l ≡ false → flowPlace p u (set l i x) ≡ i
   set-there h y n =
       find-at (isFlow p u) (set l i x) i noFlow (rw length-set h) (rw (getD-set-same l i x noFlow h) y)
       (λ k g. rw (getD-set-other l i k x noFlow (λ e. omega arith)) (absent p u l n k))
 
--- a store keeps the places apart, where what is stored stands nowhere else
+-- a store keeps each peer and tag to one place, if what is stored stands nowhere else
 pub unique-set : (l : List Flow) (i : ℕ) (x : Flow) → Unique l
     → ((p : Eid) (u : TagValue) (j : ℕ) → isFlow p u x ≡ true → isFlow p u (getD l j noFlow) ≡ true → i ≡ j) → Unique (set l i x)
 unfolding Unique

@@ -26,7 +26,7 @@ use Rattle.flows.specs.Table.{noFlow, isFlow, standing, usedTags}
 use Rattle.octets.proofs.Finds.{find-hit, find-first, find-at, find-none, some-found, some-snoc}
 use Rattle.flows.proofs.Bits.{bit-one, twice, halved, set-halved}
 
--- ---- bits that a test says
+-- ---- bits by a test
 
 bit-low : (b : Bool) (m : ℕ) → (bit b 1 + 2 * m) % 2 ≡ bit b 1
 bit-low true m = omega arith
@@ -86,7 +86,7 @@ bits-more f g (suc k) s (suc n) h y e =
     let i = bits-more f g k (s + 1) n (omega arith) (ap g q ∙ y) (λ t d. e t (λ r. d (r ∙ sym q))) in
     rw (set-halved k (bit (f s) 1 + 2 * m), bit-low (f s) m, bit-high (f s) m, i, e s (λ r. omega arith))
 
--- the ones of the bits, and those left out, make n
+-- the bits that are set and those that are not are n together
 pub bits-count : (f : ℕ → Bool) (s n : ℕ) → ones (bitsOf f s n) + countFree f s n ≡ n
 unfolding bitsOf countFree ones
 bits-count f s zero = refl
@@ -114,7 +114,7 @@ used-none peer = refl
 pub free-counts : (peer : Eid) (flows : List Flow) → freeCount (usedTags peer flows) ≡ countFree (λ t. standing peer (record { 0 = t }) flows) 0 8
 free-counts peer flows = let e = bits-count (λ t. standing peer (tagged t) flows) 0 8 in omega arith
 
--- a flow stands in a table with one more place: in those before, or there
+-- a flow stands in a table with one more place where it stands in the places before, or in that place
 pub standing-next : (peer : Eid) (tag : TagValue) (flows : List Flow) (i : ℕ) → i < length flows
     → standing peer tag (take (i + 1) flows) ≡ pick (standing peer tag (take i flows)) true (isFlow peer tag (getD flows i noFlow))
 standing-next peer tag flows i h =
@@ -206,7 +206,7 @@ module _ (used start : ℕ) where
   Told (Free t) = Found t
   Told NoneFree = (t : ℕ) → t < 8 → isSet t used ≡ true
 
-  -- each tag is met
+  -- the search comes by every tag
   met : (t : ℕ) → t < 8 → (start + (t + (8 - start % 8)) % 8) % 8 ≡ t
   met t h = omega arith
 

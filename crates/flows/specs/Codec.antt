@@ -1,5 +1,5 @@
--- A flow in 32 bytes: used, peer and tag first, so that one number of 4 bytes tells whose a place is.
--- `FlowOk` are the ranges that a flow's fields always have.
+-- A flow in 32 bytes: used, peer and tag come first, so that one number of 4 bytes tells which peer and tag a place belongs to.
+-- `FlowOk` says the ranges that a flow's fields always have.
 -- Leans on `octets` for rows of numbers.
 use Prim.Native.Nat.{ℕ, _+_, _*_, _^_, _<_}
 use mathlib.Core.List.{List, [], _∷_}
@@ -30,7 +30,7 @@ expiryStamp (From s) = s
 unfoldable pub expiryOf : ℕ → ℕ → ℕ → Expiry
 expiryOf n clock counter = pick (eqb n 1) (From (record { clock = clock; counter = counter })) Never
 
--- each a width and a number
+-- the fields of a flow, each a width and a number
 abbrev pub flowRow : ℕ → ℕ → ℕ → ℕ → ℕ → ℕ → ℕ → ℕ → List (ℕ × ℕ)
 flowRow used peer tag has kind value clock counter =
     (1, used) ∷ (1, peer) ∷ (2, tag) ∷ (2, has) ∷ (2, kind) ∷ (8, value) ∷ (8, clock) ∷ (8, counter) ∷ []
@@ -60,7 +60,7 @@ pub record FlowOk (f : Flow) : Type 0 where
   pub clock : expiryStamp (f .expiry) .clock < 2 ^ 64
   pub counter : expiryStamp (f .expiry) .counter < 2 ^ 32
 
--- and so has the flow at each place
+-- the flow at each place has its ranges
 unfoldable pub AllOk : List Flow → Type 0
 AllOk flows = (i : ℕ) → i < length flows → FlowOk (getD flows i noFlow)
 

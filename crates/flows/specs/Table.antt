@@ -38,7 +38,7 @@ noFlow = record { used = false; peer = record { 0 = 0 }; tag = record { 0 = 0 };
 abbrev pub isFree : Flow → Bool
 isFree f = not (f .used)
 
--- the flow of that peer and tag
+-- whether it is the flow of that peer and tag
 unfoldable pub isFlow : Eid → TagValue → Flow → Bool
 isFlow peer tag f = pick (f .used) (pick (sameEid (f .peer) peer) (sameTag (f .tag) tag) false) false
 
@@ -50,7 +50,7 @@ unfoldable pub Unique : List Flow → Type 0
 Unique flows =
     (peer : Eid) (tag : TagValue) (i j : ℕ) → isFlow peer tag (getD flows i noFlow) ≡ true → isFlow peer tag (getD flows j noFlow) ≡ true → i ≡ j
 
--- a flow of that peer and tag stands
+-- whether a flow of that peer and tag stands
 abbrev pub standing : Eid → TagValue → List Flow → Bool
 standing peer tag flows = ltb (flowPlace peer tag flows) (length flows)
 
@@ -58,11 +58,11 @@ standing peer tag flows = ltb (flowPlace peer tag flows) (length flows)
 abbrev pub flowCookie : Eid → TagValue → List Flow → Cookie
 flowCookie peer tag flows = (getD flows (flowPlace peer tag flows) noFlow) .cookie
 
--- the flow goes; absent is no error
+-- the flows without that of a peer and tag; where there is none they stay as they are
 abbrev pub removed : Eid → TagValue → List Flow → List Flow
 removed peer tag flows = set flows (flowPlace peer tag flows) noFlow
 
--- bit t is set exactly when a flow of that peer and tag t stands
+-- the used-tag byte: bit t is set exactly when a flow of that peer and tag t stands
 abbrev pub usedTags : Eid → List Flow → ℕ
 usedTags peer flows = bitsOf (λ t. standing peer (record { 0 = t }) flows) 0 8
 
@@ -84,7 +84,7 @@ pub record Table : Type 0 where
   pub now : EventStamp
   pub counter : ℕ
 
--- the table after it, and the tag or the refusal
+-- the table after a send has looked at it, and the tag or the refusal that the send gets
 pub record Flowed : Type 0 where
   pub table : Table
   pub granted : Granted
@@ -111,17 +111,18 @@ insertFlow peer tag expires cookie t =
 abbrev pub turned : Table → Table
 turned t = record { flows = t .flows; now = t .now; counter = (t .counter % 8 + 1) % 8 }
 
--- the tag that the search found; none free: TagUnavailable, with no event
+-- a new flow under the tag that the search found; where no tag is free it is TagUnavailable, and no event counts
 unfoldable pub withTag : Eid → TagFound → Bool → Cookie → Table → Flowed
 withTag peer (Free tag) expires cookie t = insertFlow peer tag expires cookie t
 withTag peer NoneFree expires cookie t = record { table = t; granted = Refused TagUnavailable }
 
--- a fresh tag: the counter goes up even if none is free, and the first free tag from there, wrapping, is taken
+-- a fresh tag: the counter goes up even if no tag is free, and the first free tag from there on is taken, 0 after 7
 unfoldable pub freshFlow : Eid → Bool → Cookie → Table → Flowed
 freshFlow peer expires cookie t =
     withTag peer (freeTagOf (usedTags peer (t .flows)) (turned t .counter)) expires cookie (turned t)
 
--- a fixed owned tag that stands with an expiry: BadArgument; without expiry it is used again and keeps its first cookie; absent, it is inserted
+-- a fixed owned tag: where its flow stands with an expiry it is BadArgument; where it stands without, it is used again and keeps its first cookie; where there
+-- is none, it is inserted
 unfoldable pub fixedFlow : Eid → TagValue → Bool → Cookie → Table → Flowed
 fixedFlow peer tag expires cookie t =
     pick (standing peer tag (t .flows))

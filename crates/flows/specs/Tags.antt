@@ -20,11 +20,11 @@ unfoldable pub bitsOf : (ℕ → Bool) → ℕ → ℕ → ℕ
 bitsOf f t zero = 0
 bitsOf f t (suc n) = bit (f t) 1 + 2 * bitsOf f (t + 1) n
 
--- bit t is set
+-- whether bit t is set
 abbrev pub isSet : ℕ → ℕ → Bool
 isSet t byte = eqb (byte / 2 ^ t % 2) 1
 
--- with bit t set
+-- the number with bit t set
 unfoldable pub setBit : ℕ → ℕ → ℕ
 setBit t byte = pick (isSet t byte) byte (byte + 2 ^ t)
 
@@ -32,7 +32,7 @@ setBit t byte = pick (isSet t byte) byte (byte + 2 ^ t)
 unfoldable pub marked : Eid → Flow → ℕ → ℕ
 marked peer f used = pick (f .used) (pick (sameEid (f .peer) peer) (setBit (f .tag .0) used) used) used
 
--- the tags from start on, wrapping
+-- the eight tags from start on, 0 after 7
 abbrev pub turn : ℕ → List ℕ
 turn start =
     start % 8 ∷ (start + 1) % 8 ∷ (start + 2) % 8 ∷ (start + 3) % 8 ∷ (start + 4) % 8 ∷ (start + 5) % 8 ∷ (start + 6) % 8 ∷ (start + 7) % 8 ∷ []
@@ -40,16 +40,16 @@ turn start =
 abbrev pub isFreeIn : ℕ → ℕ → Bool
 isFreeIn used t = not (isSet t used)
 
--- the first free tag from start on, wrapping
+-- the first free tag from start on, 0 after 7
 unfoldable pub freeTagOf : ℕ → ℕ → TagFound
 freeTagOf used start =
     pick (ltb (find (isFreeIn used) (turn start)) 8) (Free (record { 0 = (start + find (isFreeIn used) (turn start)) % 8 })) NoneFree
 
--- free tags left: the zeros among the eight used-tag bits
+-- how many tags are free: the zeros among the eight used-tag bits
 abbrev pub freeCount : ℕ → ℕ
 freeCount used = 8 - ones used
 
--- how many of t, t + 1, .. (n of them) the test leaves out
+-- how many of the n numbers t, t + 1, .. do not pass the test
 unfoldable pub countFree : (ℕ → Bool) → ℕ → ℕ → ℕ
 countFree f t zero = 0
 countFree f t (suc n) = bit (not (f t)) 1 + countFree f (t + 1) n

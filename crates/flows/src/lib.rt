@@ -90,7 +90,7 @@ pub fn new_flow(peer: Eid, tag: TagValue, expires: bool, cookie: Cookie, stamp: 
 }
 
 impl Flow {
-    // It has no expiry.
+    // Whether it has no expiry.
     pub fn is_lasting(self) -> bool
         ensures { λ r. ⌜ r ≡ lasts self ⌝ }
     {
@@ -112,7 +112,7 @@ impl Flow {
         }
     }
 
-    // The used-tag byte of a peer with this flow's tag in it.
+    // The used-tag byte of a peer, with this flow's tag added where the flow is that peer's.
     pub fn mark(self, peer: Eid, used: u8) -> u8
         requires { ⌜ FlowOk self ⌝ }
         ensures { λ r. ⌜ r ≡ marked peer self used ⌝ }
@@ -209,7 +209,7 @@ fn write_fields(
     put8(b, 24, counter as u64);
 }
 
-// The flow's bytes over the front of `b`, as far as they fit.
+// Writes the flow's bytes over the front of `b`, as far as they fit.
 pub fn write_flow(b: &mut [u8], f: Flow)
     ensures { λ _. ⌜ now (b .exit) ≡ lay 0 (flowBytes f) (now (b .entry)) ⌝ }
 {

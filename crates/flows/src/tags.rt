@@ -1,12 +1,12 @@
-// Tags as bits of a byte: bit t of a peer's used-tag byte says that tag t is taken. The search for a free tag stands here alone.
-// A tag counts modulo 8. Definitions: specs/Tags.antt.
+// Tags as bits of a byte: bit t of a peer's used-tag byte says that tag t is taken. The search for a free tag is here and nowhere else.
+// A tag is taken modulo 8. Definitions: specs/Tags.antt.
 ghost use mathlib.Core.Path.{_≡_};
 ghost use Prim.Native.Nat.{_%_, _^_, _≤_};
 ghost use Rattle.flows.specs.Tags.{freeTagOf, freeCount, isFreeIn, setBit};
 use super::TagFound;
 use mctp::TagValue;
 
-// Bit t is clear.
+// Whether bit t is clear.
 fn tag_is_free(used: u8, t: u8) -> bool
     ensures { λ r. ⌜ r ≡ isFreeIn used (t % 8) ⌝ }
 {
@@ -31,7 +31,7 @@ pub fn set_bit(t: u8, byte: u8) -> u8
     byte + p
 }
 
-// The first free tag from `start` on, wrapping; bit t of `used` says that tag t is taken.
+// The first free tag from `start` on, 0 after 7; bit t of `used` says that tag t is taken.
 pub fn free_tag(used: u8, start: u8) -> TagFound
     ensures { λ r. ⌜ r ≡ freeTagOf used (start % 8) ⌝ }
 {
@@ -46,7 +46,7 @@ pub fn free_tag(used: u8, start: u8) -> TagFound
     TagFound::NoneFree
 }
 
-// Free tags left: eight less the ones of the used-tag byte.
+// How many tags are free: eight less the ones of the used-tag byte.
 pub fn free_tags(used: u8) -> u8
     ensures { λ r. ⌜ r ≡ freeCount used ⌝ }
 {

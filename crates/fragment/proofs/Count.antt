@@ -24,19 +24,19 @@ use Rattle.fragment.proofs.Steps.{step-emits}
 use Rattle.fragment.proofs.Idle.{Every, every-first, every-rest}
 use Rattle.fragment.proofs.Cuts.{Sending, lead-most, next-sending, new-is, written-nil, after-nil, written-on, after-on, written-done, after-done}
 
--- what a packet takes: all that is left where it fits under the MTU, else all that the MTU leaves
+-- what a packet takes: all that is left where that fits under the MTU, else all that the MTU has room for
 all-fits : (u size n mtu l s : ℕ) → l ≤ 5 → mtu ≤ n → s + 5 ≤ mtu → u + s + 5 ≡ size + l → u ≤ size → u + min (size - u) (min n mtu - l) ≡ size
 all-fits u size n mtu l s a b c d e = omega arith
 
 part-fits : (u size n mtu l s : ℕ) → l ≤ 5 → 5 ≤ mtu → mtu ≤ n → mtu ≤ s + 4 → u + s + 5 ≡ size + l → u ≤ size → (u + min (size - u) (min n mtu - l)) + l ≡ u + mtu
 part-fits u size n mtu l s a b c d e g = omega arith
 
--- f has written in these steps as many packets as there are buffers, but at most k, and is done exactly with the k-th
+-- in these steps f has written as many packets as there are buffers, but at most k, and it is done exactly with the k-th
 pub record Counted (f : Fragmenter) (payload ns : List ℕ) (k : ℕ) : Type 0 where
   pub done : after f payload ns .done ≡ leb k (length ns)
   pub packets : length (written f payload ns) ≡ min (length ns) k
 
--- with r bytes a packet, a first packet's type byte among them: q packets that are full, and one more
+-- where a packet takes r bytes, the type byte of a first packet among them: q packets that are full, and one more
 counts : (ns : List ℕ) (q s r : ℕ) (f : Fragmenter) (payload : List ℕ) → Sending f payload → r + 4 ≡ f .mtu → s < r
     → f .«payload_used» + (q * r + s) + 5 ≡ length payload + lead (f .first) → Every (λ n. f .mtu ≤ n) ns → Counted f payload ns (suc q)
 counts [] q s r f payload w e l t u = record {
@@ -96,13 +96,13 @@ module _ (typ : MsgType) (src dest : Eid) (tag : Tag) (mtu : ℕ) (cookie : Cook
       (counts ns (size / r) (size % r) r f payload (record { sound = s; going = refl; used = omega arith }) (omega arith) part (omega arith) u)
 
   module _ {f : Fragmenter} (is : newOf typ src dest tag mtu cookie ic seq ≡ Sends f) (payload ns : List ℕ) (u : Every (λ n. mtu ≤ n) ns) where
-    -- any number of buffers
+    -- for any number of buffers
     pub counted : Counted f payload ns (packetCount mtu (length payload))
     counted =
         let n = new-is typ src dest tag mtu cookie ic seq is in
         subst (λ (g : Fragmenter). Counted g payload ns (packetCount mtu (length payload))) (n .same) (counts-fresh (n .sound) payload ns u)
 
-    -- as many as it takes: done, with as many packets
+    -- with as many buffers as it takes, it is done, and has written as many packets
     pub count : length ns ≡ packetCount mtu (length payload)
         → (after f payload ns .done ≡ true) × (length (written f payload ns) ≡ packetCount mtu (length payload))
     count e =
@@ -110,6 +110,6 @@ module _ (typ : MsgType) (src dest : Eid) (tag : Tag) (mtu : ℕ) (cookie : Cook
         let p = c .packets in
         (c .done ∙ le-leb (packetCount mtu (length payload)) (length ns) (omega arith), omega arith)
 
-    -- fewer: not done
+    -- with fewer buffers it is not done
     pub count-fewer : length ns < packetCount mtu (length payload) → after f payload ns .done ≡ false
     count-fewer l = counted .done ∙ lt-leb (packetCount mtu (length payload)) (length ns) l

@@ -1,5 +1,5 @@
 -- What a run of steps writes is the message in packets that DSP0236 asks for, as far as the run has come; a run that ends has written the whole.
--- It holds because each step writes one packet of what is left, and hands the next number and place on.
+-- It holds because each step writes one packet of what is left, and hands on the next number and place.
 use Prim.Native.Nat.{ℕ, _+_, _-_, _%_, _≤_}
 use native.Mathlib.Omega.{arith}
 use mathlib.Core.Path.{_≡_, refl, sym, ap, subst, _∙_}

@@ -1,4 +1,4 @@
--- The bay's figures of cutting, computed from the definitions: own EID 8 to 9, type 1, owned tag 1, sequence 1.
+-- The figures of cutting (docs/RULES.md, section 11), computed from the definitions: from EID 8 to 9, type 1, owned tag 1, sequence 1.
 use Prim.Native.Nat.{ℕ}
 use mathlib.Core.Path.{_≡_, refl}
 use mathlib.Core.Bool.{false}
@@ -14,7 +14,7 @@ use Rattle.fragment.specs.declared.Started.the-variants.{Sends}
 use Rattle.fragment.specs.Step.{newOf, fresh, stepOf}
 use Rattle.fragment.specs.Run.{written, after}
 
--- with that MTU
+-- the fragmenter of these figures, with that MTU
 abbrev pub from : ℕ → Fragmenter
 from mtu = fresh (record { 0 = 1 }) (record { 0 = 8 }) (record { 0 = 9 }) (Owned (record { 0 = 1 })) mtu Absent (record { 0 = false }) 1
 

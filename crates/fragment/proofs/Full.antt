@@ -80,7 +80,7 @@ full-on (n ∷ ns) f payload s r =
     (full-on ns g payload (next-sending f payload n s l d) (every-rest (λ (m : ℕ). f .mtu ≤ m) n ns r))))
 
 module _ (typ : MsgType) (src dest : Eid) (tag : Tag) (mtu : ℕ) (cookie : Cookie) (ic : MsgIC) (seq : ℕ) where
-  -- f comes from `new`; the payload is lent at every step, with buffers of at least the MTU: what it writes, to the end or not
+  -- what f writes, to the end or not, if it comes from `new` and the payload is lent at every step, with buffers of at least the MTU
   pub full-packets : {f : Fragmenter} (payload ns : List ℕ) → newOf typ src dest tag mtu cookie ic seq ≡ Sends f → Every (λ n. mtu ≤ n) ns → Full mtu (written f payload ns)
   full-packets payload ns e r =
       let n = new-is typ src dest tag mtu cookie ic seq e in

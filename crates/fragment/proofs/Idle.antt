@@ -1,5 +1,5 @@
 -- What is written where the buffers never suffice: nothing into buffers under the least size, and headers alone into later buffers of 4 bytes.
--- The first holds because a refusal changes nothing; the second because a header leaves no room there, and the step asks for none.
+-- The first holds because a refusal changes nothing; the second because a header leaves no room there, and the step does not ask for any.
 use Prim.Native.Nat.{ℕ, zero, suc, _+_, _%_, _≤_, _<_}
 use native.Mathlib.Omega.{arith}
 use mathlib.Core.Path.{_≡_, refl, sym, ap, _∙_}
@@ -17,7 +17,7 @@ use Rattle.fragment.proofs.Steps.{step-small, step-emits, packet-with}
 use Rattle.octets.proofs.Bools.{bool-cases}
 use Rattle.fragment.proofs.Cuts.{written-nil, after-nil, written-on, after-on, written-done, after-done}
 
--- each size of the list is so
+-- the claim holds for each size of the list
 unfoldable pub Every : (ℕ → Type 0) → List ℕ → Type 0
 Every P [] = Unit
 Every P (n ∷ ns) = P n × Every P ns
@@ -41,7 +41,7 @@ refused-steps f payload (n ∷ ns) u =
     let r = refused-steps f payload ns (every-rest (λ m. m < lead (f .first)) n ns u) in
     (written-on f payload n ns e ∙ r .0, after-on f payload n ns e ∙ r .1))
 
--- the fragmenter with its number moved, and nothing else
+-- the fragmenter with the next sequence number, and nothing else changed
 abbrev pub numbered : Fragmenter → Fragmenter
 numbered f = record {
   src = f .src;
@@ -61,7 +61,7 @@ numbered f = record {
 abbrev pub bareStep : Fragmenter → Step
 bareStep f = record { result = record { next = numbered f; output = Packet 4 }; bytes = headerBytes (headerFor f false) }
 
--- later in a message, with body left
+-- f is past its first packet and has body left to send
 pub record Later (f : Fragmenter) (payload : List ℕ) : Type 0 where
   pub mtu : 5 ≤ f .mtu
   pub later : f .first ≡ false
@@ -104,12 +104,12 @@ bare f payload l =
       bytes = b i;
     })
 
--- the headers alone of so many steps
+-- the bare headers of so many steps
 unfoldable pub bares : ℕ → Fragmenter → List (List ℕ)
 bares zero f = []
 bares (suc k) f = headerBytes (headerFor f false) ∷ bares k (numbered f)
 
--- room 4 for ever: a header alone at each step, no byte of the payload, and no end
+-- with buffers of 4 bytes each step writes a header alone: no byte of the payload goes out, and the run does not end
 pub bare-run : (ns : List ℕ) (f : Fragmenter) (payload : List ℕ) → Later f payload → Every (λ n. n ≡ 4) ns
     → (written f payload ns ≡ bares (length ns) f) × (after f payload ns .«payload_used» ≡ f .«payload_used») × (after f payload ns .done ≡ false)
 unfolding bares

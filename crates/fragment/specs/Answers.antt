@@ -32,7 +32,7 @@ abbrev pub startedAs : Started → Answer
 startedAs (Sends f) = gives (wordsOf f)
 startedAs (Refused err) = refuses (errorNo err) []
 
--- 0 and the packet's length; with all sent 0, length 0, and the tag and the cookie; a refusal comes with the cookie. A packet has at least its
+-- for a packet, 0 and its length; when all is sent, 0, length 0, the tag and the cookie; for a refusal, its number and the cookie. A packet has at least its
 -- header's four bytes, so length 0 says that all is sent
 abbrev pub outputAs : SendOutput → Answer
 outputAs (Packet n) = gives (n ∷ [])

@@ -19,7 +19,7 @@ pub record PacketIs (key : Key) (mtu : ℕ) (som eom : Bool) (number : ℕ) (p :
   pub whole : lead som ≤ length p
   pub within : length p ≤ mtu
 
--- packets in turn, the first of them numbered so: SOM as told for it and on none after it; EOM as told for the last and on none before it
+-- packets numbered in turn, the first with this number: SOM is as told on the first and on no other, EOM is as told on the last and on no other
 unfoldable pub InTurn : Key → ℕ → Bool → Bool → ℕ → List (List ℕ) → Type 0
 InTurn key mtu som true number [] = ⊥
 InTurn key mtu som false number [] = Unit
@@ -34,12 +34,12 @@ saysSom Bad = false
 abbrev pub bodyIn : List ℕ → List ℕ
 bodyIn p = drop (lead (saysSom (headerOf p))) p
 
--- joining: the bodies in order
+-- what joining gives: the bodies in order
 unfoldable pub joined : List (List ℕ) → List ℕ
 joined [] = []
 joined (p ∷ ps) = bodyIn p ++ joined ps
 
--- joining: the type byte of the first
+-- what joining gives: the type byte of the first packet
 unfoldable pub kindIn : List (List ℕ) → ℕ
 kindIn [] = 0
 kindIn (p ∷ ps) = getD p 4 0

@@ -1,4 +1,4 @@
--- A run of steps, the payload lent at every step, with packet buffers of any sizes.
+-- A run of steps: the payload is lent at every step, and the packet buffers may have any sizes.
 -- What it writes, the fragmenter after it, and DSP0236's rule for a sender, that every packet but the last is of full size.
 -- Leans on specs/Step.antt.
 use Prim.Native.Nat.{ℕ, _+_, _-_, _/_, _≤_}

@@ -1,5 +1,5 @@
 -- docs/RULES.md 29 to 36: one step, in its order, and the bytes that it writes.
--- A later step with room 4 emits a header alone: `emitted` says so in one place, by asking nothing of the room.
+-- A later step with room for 4 bytes emits a header alone; `emitted` covers that too, since it asks nothing about the room.
 -- Leans on `mctp` for the header's bytes.
 use Prim.Native.Nat.{ℕ, _+_, _-_, _*_, _%_, _≤_, _<_, min}
 use mathlib.Core.Bool.{Bool, true, false}
@@ -45,7 +45,7 @@ fresh typ src dest tag mtu cookie ic seq = record {
   «payload_used» = 0;
 }
 
--- a tag above 7 or a type above 127 is InvalidInput; an MTU outside 5 to 255 is BadArgument
+-- a tag above 7 or a type above 127 is InvalidInput, and an MTU outside 5 to 255 is BadArgument
 unfoldable pub newOf : MsgType → Eid → Eid → Tag → ℕ → Cookie → MsgIC → ℕ → Started
 newOf typ src dest tag mtu cookie ic seq =
     pick (ltb 7 (tagOf tag .0)) (Refused InvalidInput)
@@ -61,20 +61,20 @@ roomOf f n = min n (f .mtu)
 abbrev pub fitting : Fragmenter → ℕ → ℕ → ℕ
 fitting f size n = min (size - f .«payload_used») (roomOf f n - lead (f .first))
 
--- EOM exactly when all payload is used
+-- EOM is set exactly when all payload is used
 abbrev pub ends : Fragmenter → ℕ → ℕ → Bool
 ends f size n = eqb (f .«payload_used» + fitting f size n) size
 
 abbrev pub headerFor : Fragmenter → Bool → Header
 headerFor f eom = record { key = keyUnder (f .src) (f .dest) (f .tag); som = f .first; eom = eom; seq = f .seq }
 
--- the packet: header, with the first the type byte, and the body
+-- the packet: the header, the type byte if it is the first packet, and the body
 abbrev pub packetFor : Fragmenter → List ℕ → ℕ → List ℕ
 packetFor f payload n =
     headerBytes (headerFor f (ends f (length payload) n))
     ++ intro (f .first) (typeByte (f .typ) (f .ic)) (part (f .«payload_used») (fitting f (length payload) n) payload)
 
--- after a packet that took n body bytes: sequence up by 1 modulo 4, first no more, done exactly with EOM
+-- the fragmenter after a packet that took n body bytes: the sequence goes up by 1 modulo 4, it is no longer first, and it is done exactly with EOM
 abbrev pub advancedBy : Fragmenter → ℕ → Bool → Fragmenter
 advancedBy f n eom = record {
   src = f .src;
@@ -107,7 +107,8 @@ emitted f payload n = record {
   bytes = packetFor f payload n;
 }
 
--- 1. done: Complete with tag and cookie; 2. buffer under 5 (first) or 4 (later): NoSpace; 3. payload shorter than what was used: InvalidInput; 4. else a packet
+-- rules 30 to 33: where it is done, Complete with tag and cookie; a buffer under 5 bytes (first) or 4 (later) is NoSpace; a payload shorter than what was used
+-- is InvalidInput; otherwise a packet
 unfoldable pub stepOf : Fragmenter → List ℕ → ℕ → Step
 stepOf f payload n =
     pick (f .done) (record { result = record { next = f; output = Complete (f .tag) (f .cookie) }; bytes = [] })
@@ -145,7 +146,7 @@ unfoldable pub writtenBy : Plan → List ℕ → List ℕ
 writtenBy (Still output) payload = []
 writtenBy (Emits c) payload = headerBytes (c .header) ++ intro (c .header .som) (c .kind) (part (c .from) (c .len) payload)
 
--- a packet's body lies in the payload, and the packet has room in the buffer
+-- a packet's body lies within the payload, and the packet has room in the buffer
 pub record Fits (c : Cut) (size n : ℕ) : Type 0 where
   pub within : c .from + c .len ≤ size
   pub room : lead (c .header .som) + c .len ≤ n

@@ -33,7 +33,7 @@ pub struct Fragmenter {
     pub payload_used: usize,
 }
 
-// What a step answers: a packet of so many bytes in the buffer; all sent; or a refusal.
+// What a step answers: a packet of so many bytes is in the buffer, all is sent, or a refusal.
 pub enum SendOutput {
     Packet(usize),
     Complete { tag: Tag, cookie: Cookie },
@@ -59,7 +59,7 @@ pub struct Cut {
     pub total: usize,
 }
 
-// A step before it writes: it writes nothing, and answers this; or it writes a packet.
+// What a step is going to do: write nothing and give this answer, or write this packet.
 pub enum Plan {
     Still(SendOutput),
     Emits(Cut),
@@ -80,7 +80,7 @@ fn beyond(a: usize, b: usize) -> usize
     a - b
 }
 
-// The first packet: header, type byte, and n bytes of the payload straight into the buffer.
+// Writes the first packet: header, type byte, and n bytes of the payload straight into the buffer.
 fn write_first(out: &mut [u8], h: Header, kind: u8, payload: &[u8], used: usize, n: usize)
     requires { ⌜ (5 + n ≤ length (now out)) × (used + n ≤ length (now payload)) ⌝ }
     ensures { λ _. ⌜ now (out .exit) ≡ over 0 (headerBytes h ++ (kind ∷ part used n (now (payload .entry)))) (now (out .entry)) ⌝ }
@@ -91,7 +91,7 @@ fn write_first(out: &mut [u8], h: Header, kind: u8, payload: &[u8], used: usize,
     copying::copy(&mut out[5..], &payload[used..end]);
 }
 
-// A later packet: header, and n bytes of the payload straight into the buffer.
+// Writes a later packet: header, and n bytes of the payload straight into the buffer.
 fn write_later(out: &mut [u8], h: Header, payload: &[u8], used: usize, n: usize)
     requires { ⌜ (4 + n ≤ length (now out)) × (used + n ≤ length (now payload)) ⌝ }
     ensures { λ _. ⌜ now (out .exit) ≡ over 0 (headerBytes h ++ part used n (now (payload .entry))) (now (out .entry)) ⌝ }

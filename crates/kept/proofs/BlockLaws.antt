@@ -1,4 +1,4 @@
--- A block that is lent, read as a record and written anew tells whether it holds one; and a region does where each block does.
+-- A block is lent, read as a record and written out again: that tells whether it holds a record. A region is regular where each of its blocks holds one.
 use Prim.Native.Nat.{ℕ, zero, suc, _+_, _*_, _<_, _≤_}
 use native.Mathlib.Nat.{le-antisymm}
 use native.Mathlib.Numerals.{add-one}
@@ -20,11 +20,11 @@ module _ {A : Type 0} (C : Codec A) where
     read-part : x ≡ C .dec (part at (C .width) b)
     read-part = read ∙ ap (C .dec) (lent at (C .width) b)
 
-    -- a record out of range
+    -- a record that is out of range is not held
     pub unheld : (C .Ok x → ⊥) → Holds C at b → ⊥
     unheld n h = n (rw read-part (h .ok))
 
-    -- one in range, written over z: whether that is the block
+    -- a record in range is written over z, and comparing that with the block tells whether the block holds it
     pub reheld : Lawful C → C .Ok x → (s z : List ℕ) {r : Bool} → length z ≡ C .width → s ≡ lay 0 (C .enc x) z → Tells (s ≡ lentAs at (C .width) b) r → Tells (Holds C at b) r
     reheld L ok s z n e t =
         let w = L .long x in
@@ -44,11 +44,11 @@ module _ {A : Type 0} (C : Codec A) where
     unfolding Regular
     blocks-none at = tt
 
-    -- one block more
+    -- one more block
     pub blocks-more : (at i : ℕ) → Regular C i at b → Holds C (at + C .width * i) b → Regular C (i + 1) at b
     blocks-more at i r h = rw add-one (regular-more i at r (rw (place-is (C .width) at i) h))
 
-    -- one that does not hold
+    -- one block that holds none
     pub blocks-not : (n at i : ℕ) → i < n → (Holds C (at + C .width * i) b → ⊥) → Regular C n at b → ⊥
     blocks-not n at i l f r = f (rw (← place-is (C .width) at i) (regular-get C n at i b l r))
 

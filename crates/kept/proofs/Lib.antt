@@ -1,4 +1,4 @@
--- A test that tells; a block, read and written anew; the ranges that bytes give; all blocks of a region.
+-- Laws of a test that answers exactly, of a block that is read and written out again, of the ranges that bytes give, and of all blocks of a region.
 pub mod TellLaws
 pub mod BlockLaws
 pub mod RangeLaws

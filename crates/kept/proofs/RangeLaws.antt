@@ -1,4 +1,4 @@
--- A record read from bytes has the ranges that their widths give; what is left is tested.
+-- A record read from bytes has the ranges that their widths give; the other ranges are tested.
 use Prim.Native.Nat.{ℕ, zero, suc, _^_, _<_, _≤_}
 use native.Mathlib.Omega.{arith}
 use mathlib.Core.Path.{_≡_}
@@ -100,7 +100,7 @@ module _ (b : List ℕ) (p : Bytes b) where
     issue = issue-under (2 ^ 64) (omega arith) (num (part 0 1 b)) (num (part 32 8 b)) (field-small 32 8 b p);
   }
 
--- read from a block that is lent
+-- for a record that is read from a lent block
 module _ (at w : ℕ) (b : List ℕ) (p : (i : ℕ) → Fits w8 (getD b i 0)) where
   bytes-lent : Bytes (lentAs at w b)
   bytes-lent = rw (lent at w b) (bytes-part at w b (bytes-slice b p))
@@ -114,7 +114,7 @@ module _ (at w : ℕ) (b : List ℕ) (p : (i : ℕ) → Fits w8 (getD b i 0)) wh
   pub slot-ranged : (B : ℕ) {s : Reassembler} → s ≡ slotOf (lentAs at w b) → SlotRanges B s → SlotOk B s
   slot-ranged B e r = rw e (slot-fits (lentAs at w b) bytes-lent B (rw e at r))
 
--- what is tested is part of what is asked
+-- what is tested is part of what `HeadOk` and `SlotOk` ask
 pub head-tested : (h : Head) → HeadOk h → HeadRanges h
 head-tested h ok = record { tag = ok .tag; seq = ok .seq; soon = ok .soon }
 

@@ -1,4 +1,4 @@
--- Laws of a test that answers a question exactly: yes, no, what a test shows, and the same question said otherwise.
+-- Laws of a test that answers a question exactly: yes, no, what a test shows, and the same question put in another way.
 use mathlib.Core.Path.{_≡_, refl}
 use mathlib.Core.Bool.{Bool, true, false, not}
 use borrow.Author.Tests.{not-true, not-false}

@@ -1,5 +1,5 @@
 -- The definitions that the contracts of `kept` cite, beside those of `state`.
--- Tells: a test that answers a question exactly. Ranges: what the bytes of a head and of a slot leave open.
+-- Tells: a test that answers a question exactly. Ranges: those of a head and of a slot that the widths of the fields do not give.
 -- Leans on `state` and `slot`.
 pub mod Tells
 pub mod Ranges

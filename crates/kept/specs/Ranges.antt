@@ -1,4 +1,4 @@
--- The ranges that the width of a field's bytes does not give: the rest of `HeadOk` and `SlotOk` follows from the bytes.
+-- The ranges that the width of a field does not give; the rest of `HeadOk` and `SlotOk` follows from the bytes.
 -- Leans on `state` for the head, on `slot` for a slot's record.
 use Prim.Native.Nat.{ℕ, _+_, _<_, _≤_}
 use Rattle.config.specs.Config.{interval}

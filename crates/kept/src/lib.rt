@@ -1,6 +1,6 @@
-// Whether bytes are a state of the stack, exactly: a board that keeps its state over a warm start looks before it calls.
-// A block is read, its ranges are tested, and its record is written anew and compared; then all flow places, and all slots.
-// Leans on `state` for the layout and the codecs, on `flows` for a flow's. Definitions: specs/Tells.antt, specs/Ranges.antt.
+// Tells exactly whether bytes are a kept state (docs/RULES.md 88 to 90). A board that keeps its state over a warm start asks this before any other call.
+// A block is read as a record, the record's ranges are tested, and it is written out again and compared: first the head, then all flow places and all slots.
+// Leans on `state` for the layout and the codecs, on `flows` for a flow's codec. Definitions: specs/Tells.antt, specs/Ranges.antt.
 ghost use mathlib.Core.Path.{_≡_};
 ghost use mathlib.Core.Bool.{true};
 ghost use Prim.Native.Nat.{_+_, _*_, _≤_};
@@ -41,7 +41,7 @@ fn same_bytes(a: &[u8], b: &[u8]) -> bool
 
 // ---- one block
 
-// The ranges of a head that its bytes leave open.
+// Whether a head has the ranges that the widths of its fields do not give.
 fn head_ranges(h: Head) -> bool
     ensures { λ r. ⌜ Tells (HeadRanges h) r ⌝ }
 {
@@ -60,7 +60,7 @@ fn head_ranges(h: Head) -> bool
     true
 }
 
-// The ranges of a slot that its bytes leave open.
+// Whether a slot has the ranges that the widths of its fields do not give.
 fn slot_ranges(s: Reassembler, body: usize) -> bool
     ensures { λ r. ⌜ Tells (SlotRanges body s) r ⌝ }
 {

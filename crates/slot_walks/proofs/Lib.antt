@@ -1,3 +1,3 @@
--- A search by its steps; a sweep and a check by theirs.
+-- The laws of the walks: a search step by step, and a sweep step by step.
 pub mod SlotSearch
 pub mod SlotChecks

@@ -1,4 +1,4 @@
--- A cancel's walk over the slots: what slot i makes, what is then left, and what is known on the way.
+-- A cancel's walk over the slots: what it does at slot i, what is then left, and what is known on the way.
 use Prim.Native.Nat.{ℕ, suc, _+_, _≤_, _<_}
 use native.Mathlib.Omega.{arith}
 use mathlib.Core.Path.{_≡_, refl, sym, ap, _∙_}
@@ -37,7 +37,7 @@ abbrev pub sweptSlot : Eid → TagValue → Reassembler → Reassembler
 sweptSlot peer tag s = getD (swept peer tag (s ∷ [])) 0 blankSlot
 
 module _ (peer : Eid) (tag : TagValue) (s : Reassembler) where
-  -- a reply with a handle out, one without, and any other slot
+  -- the three cases: a reply with a handle out, a reply without, and any other slot
   pub stops : isReply peer tag s ≡ true → handleTaken s ≡ true → (true ≡ blocked peer tag (s ∷ [])) × (s ≡ sweptSlot peer tag s)
   unfolding swept blocked pick
   stops r h = (rw (r, h), rw (r, h))
@@ -67,7 +67,7 @@ module _ (peer : Eid) (tag : TagValue) (s : Reassembler) (t : List Reassembler) 
       (λ r. false-true (passes peer tag s r .0 ∙ e))
 
 module _ (z : Sizes) (peer : Eid) (tag : TagValue) where
-  -- a cancel's walk that has come to slot i: what is ahead is swept, and stops, as from the start
+  -- a cancel's walk that has come to slot i: a walk from here sweeps and stops where the walk from the start does
   pub record Swept (b₀ b : List ℕ) (i : ℕ) : Type 0 where
     pub walked : Walked slotPart z (swept peer tag) b₀ b i
     pub ahead : blocked peer tag (drop i (stackOf z b .slots)) ≡ blocked peer tag (stackOf z b₀ .slots)
@@ -75,7 +75,7 @@ module _ (z : Sizes) (peer : Eid) (tag : TagValue) where
   pub sweep-start : (b : List ℕ) → Kept z b → Swept b b 0
   sweep-start b k = record { walked = walk-start slotPart z (swept peer tag) b k; ahead = refl }
 
-  -- the turn of slot i, of which r tells whether the walk stops there
+  -- the step at slot i; r tells whether the walk stops there
   module _ (b₀ b x : List ℕ) (i : ℕ) (w : Swept b₀ b i) (h : i < z .slots) (r : Bool)
       (turn : (r ≡ blocked peer tag (slotAt i (stackOf z b) ∷ [])) × Becomes z b x (withSlot i (sweptSlot peer tag (slotAt i (stackOf z b))) (stackOf z b))) where
     abbrev slot : Reassembler

@@ -32,7 +32,7 @@ module _ (z : Sizes) (b : List ℕ) (p : Reassembler → Bool) (i : ℕ) (h : i 
   pub find-end : i ≤ z .slots → z .slots ≤ i → (i ≡ find p (stackOf z b .slots)) × (i ≤ z .slots)
   find-end w m = (none p (stackOf z b .slots) i h (rw (slots-length z b) m), w)
 
--- of slot i, read as t, and slot j, read as s: what `better` picks
+-- what `better` picks of slot i, which is read as t, and slot j, which is read as s
 module _ (z : Sizes) (b : List ℕ) (i j : ℕ) where
   pub better-none : z .slots ≤ j → i ≡ betterOf i j (stackOf z b .slots)
   unfolding betterOf

@@ -31,11 +31,12 @@ abbrev pub chosen : Choice → List ℕ → Reassembler → Bool
 chosen (From peer owner tag) cookies s = keptUnder peer owner tag s
 chosen Listed cookies s = listed cookies (s .cookie)
 
--- a slot's first four bytes are that number
+-- whether a slot's first four bytes are that number
 abbrev pub hasWord : ℕ → Reassembler → Bool
 hasWord w s = eqb (keyWord s) w
 
--- of slot i, which passes, and the best of those above it, or none: the earlier, and on a tie slot i
+-- the better of slot i, which passes the test, and the best of the slots after it, if there is one: the one with the earlier stamp, and slot i when the stamps
+-- are equal
 unfoldable pub betterOf : ℕ → ℕ → List Reassembler → ℕ
 betterOf i best slots =
     pick (ltb best (length slots)) (pick (earlier ((getD slots best blankSlot) .stamp) ((getD slots i blankSlot) .stamp)) best i) i

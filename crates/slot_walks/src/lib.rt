@@ -1,6 +1,6 @@
 // Walks over the slots of a state kept in bytes: which slot collects, which is empty, the earliest message, a check of time, a cancel's sweep.
 // Each touches only what it needs. Definitions: specs/SlotWalks.antt, and those of `slot` and `state`.
-// Leans on `state` for the bytes, on `slot` for one slot's part, on `state` for the check.
+// Leans on `state` for the bytes, on `slot` for one slot's part, on `stamp` for the check of time.
 ghost use mathlib.Core.Path.{_≡_};
 ghost use mathlib.Core.List.{map, _∷_, []};
 ghost use Prim.Native.Nat.{_+_, _≤_, _<_};
@@ -73,7 +73,7 @@ pub fn find_empty(state: &[u8], sizes: Sizes) -> usize
     i
 }
 
-// One slot of a check: expired, it is emptied.
+// Checks the time of one slot: an expired slot is emptied.
 fn expire_slot(state: &mut [u8], sizes: Sizes, i: usize, clock: u64, c: Check) -> Check
     requires { ⌜ Kept sizes (now state) × (i < sizes .slots) ⌝ }
     ensures { λ r. ⌜ (r ≡ checkOf (slotTimeout clock (slotAt i (stackOf sizes (now (state .entry)))) ∷ []) c) × Becomes sizes (now (state .entry)) (now (state .exit)) (withSlot i (fadedSlot clock (slotAt i (stackOf sizes (now (state .entry))))) (stackOf sizes (now (state .entry)))) ⌝ }
@@ -87,7 +87,7 @@ fn expire_slot(state: &mut [u8], sizes: Sizes, i: usize, clock: u64, c: Check) -
     found
 }
 
-// Expired slots are emptied; what the check found goes on from `c`.
+// Checks the time of every slot: expired slots are emptied, and what is found is added to `c`.
 pub fn expire_slots(state: &mut [u8], sizes: Sizes, clock: u64, c: Check) -> Check
     requires { ⌜ Kept sizes (now state) ⌝ }
     ensures { λ r. ⌜ (r ≡ checkOf (slotTimes clock (stackOf sizes (now (state .entry)))) c) × Becomes sizes (now (state .entry)) (now (state .exit)) (withSlots (map (fadedSlot clock) (stackOf sizes (now (state .entry)) .slots)) (stackOf sizes (now (state .entry)))) ⌝ }
@@ -102,7 +102,7 @@ pub fn expire_slots(state: &mut [u8], sizes: Sizes, clock: u64, c: Check) -> Che
     found
 }
 
-// Of slot i, which passes, and the best of those above it: the earlier, and on a tie slot i.
+// The better of slot i, which passes the test, and the best of the slots after it: the one with the earlier stamp, and slot i when the stamps are equal.
 fn better(state: &[u8], sizes: Sizes, i: usize, best: usize) -> usize
     requires { ⌜ Kept sizes (now state) × (i < sizes .slots) × (best ≤ sizes .slots) ⌝ }
     ensures { λ r. ⌜ r ≡ betterOf i best (stackOf sizes (now (state .entry)) .slots) ⌝ }
@@ -124,7 +124,7 @@ enum Choice {
     Listed,
 }
 
-// A cookie that is one of a list.
+// Whether a cookie is one of a list.
 fn is_listed(cookies: &[u64], cookie: Cookie) -> bool
     ensures { λ r. ⌜ r ≡ listed (now (cookies .entry)) cookie ⌝ }
 {
@@ -157,7 +157,7 @@ fn passes(s: Reassembler, choice: Choice, cookies: &[u64]) -> bool
     }
 }
 
-// The earliest done slot that passes, lowest index on a tie, or the number of slots.
+// The earliest done slot that passes, the lowest index of equal stamps, or the number of slots.
 fn earliest_of(state: &[u8], sizes: Sizes, choice: Choice, cookies: &[u64]) -> usize
     requires { ⌜ Kept sizes (now state) ⌝ }
     ensures { λ r. ⌜ (r ≡ earliest (chosen choice (now (cookies .entry))) (stackOf sizes (now (state .entry)) .slots)) × (r ≤ sizes .slots) ⌝ }
@@ -176,7 +176,7 @@ fn earliest_of(state: &[u8], sizes: Sizes, choice: Choice, cookies: &[u64]) -> u
     best
 }
 
-// The earliest done slot from that peer under that tag, lowest index on a tie, or the number of slots.
+// The earliest done slot from that peer under that tag, the lowest index of equal stamps, or the number of slots.
 pub fn earliest_from(state: &[u8], sizes: Sizes, peer: Eid, owner: bool, tag: TagValue) -> usize
     requires { ⌜ Kept sizes (now state) ⌝ }
     ensures { λ r. ⌜ (r ≡ earliest (keptUnder peer owner tag) (stackOf sizes (now (state .entry)) .slots)) × (r ≤ sizes .slots) ⌝ }
@@ -185,7 +185,7 @@ pub fn earliest_from(state: &[u8], sizes: Sizes, peer: Eid, owner: bool, tag: Ta
     earliest_of(state, sizes, Choice::From(peer, owner, tag), &unread)
 }
 
-// The earliest done slot whose cookie is one of the list, lowest index on a tie, or the number of slots.
+// The earliest done slot whose cookie is one of the list, the lowest index of equal stamps, or the number of slots.
 pub fn earliest_listed(state: &[u8], sizes: Sizes, cookies: &[u64]) -> usize
     requires { ⌜ Kept sizes (now state) ⌝ }
     ensures { λ r. ⌜ (r ≡ earliest (λ s. listed (now (cookies .entry)) (s .cookie)) (stackOf sizes (now (state .entry)) .slots)) × (r ≤ sizes .slots) ⌝ }
@@ -193,7 +193,7 @@ pub fn earliest_listed(state: &[u8], sizes: Sizes, cookies: &[u64]) -> usize
     earliest_of(state, sizes, Choice::Listed, cookies)
 }
 
-// One slot of a cancel's walk: a reply with no handle out is freed; true where the walk stops there.
+// One slot of a cancel's walk: a reply with no handle out is freed. It tells whether the walk stops there.
 fn sweep_slot(state: &mut [u8], sizes: Sizes, i: usize, peer: Eid, tag: TagValue) -> bool
     requires { ⌜ Kept sizes (now state) × (i < sizes .slots) ⌝ }
     ensures { λ r. ⌜ (r ≡ blocked peer tag (slotAt i (stackOf sizes (now (state .entry))) ∷ [])) × Becomes sizes (now (state .entry)) (now (state .exit)) (withSlot i (getD (swept peer tag (slotAt i (stackOf sizes (now (state .entry))) ∷ [])) 0 blankSlot) (stackOf sizes (now (state .entry)))) ⌝ }
@@ -211,7 +211,7 @@ fn sweep_slot(state: &mut [u8], sizes: Sizes, i: usize, peer: Eid, tag: TagValue
     false
 }
 
-// A cancel's walk: replies of that peer and tag are freed; true where it stopped at one with a handle out.
+// A cancel's walk: replies of that peer and tag are freed. It tells whether the walk stopped at one with a handle out.
 pub fn sweep(state: &mut [u8], sizes: Sizes, peer: Eid, tag: TagValue) -> bool
     requires { ⌜ Kept sizes (now state) ⌝ }
     ensures { λ r. ⌜ (r ≡ blocked peer tag (stackOf sizes (now (state .entry)) .slots)) × Becomes sizes (now (state .entry)) (now (state .exit)) (withSlots (swept peer tag (stackOf sizes (now (state .entry)) .slots)) (stackOf sizes (now (state .entry)))) ⌝ }

@@ -1,4 +1,4 @@
--- A buffer of zeros is a state: nothing is known of its owner, its flows are unused, and its slots are empty.
+-- A buffer of zeros is a state: every field of its head is 0, its flows are unused, and its slots are empty.
 use Prim.Native.Nat.{ℕ, zero, suc, _+_, _-_, _≤_}
 use native.Mathlib.Omega.{arith}
 use native.Mathlib.Nat.{zero-add}
@@ -51,7 +51,7 @@ module _ (m : ℕ) (b : List ℕ) (zeros : take m b ≡ replicate m 0) where
       let g : part at w (part 0 m b) ≡ part (0 + at) w b = part-part 0 at w m b h in
       sym (rw zero-add at g) ∙ ap (part at w) front ∙ f
 
-  -- where zeros are the bytes of an element
+  -- such a buffer where zeros are the bytes of an element
   module _ {A : Type 0} (C : Codec A) (x : A) (dec : C .dec (replicate (C .width) 0) ≡ x) (enc : C .enc x ≡ replicate (C .width) 0) (ok : C .Ok x) where
     zeros-hold : (at : ℕ) → at + C .width ≤ m → Holds C at b
     zeros-hold at h = let e = zeros-part at (C .width) h in record { same = rw (e, dec) (sym enc); ok = rw (e, dec) ok }
@@ -108,7 +108,7 @@ head-blank : HeadOk blankHead
 head-blank = record { own = lit< tt; tag = lit< tt; seq = lit< tt; counter = lit< tt; clock = lit< tt; planned = lit< tt; issue = lit< tt; mtu = lit< tt; soon = lit≤ tt }
 
 module _ (z : Sizes) (b : List ℕ) (sizes : SizesOk z) (zeros : take (size z) b ≡ replicate (size z) 0) where
-  -- the flows end in the state, and so do the slots
+  -- the flows end within the state, and so do the slots
   flows-in : place flowWidth flowsAt flowCount ≤ size z
   flows-in = let p = place-is flowWidth flowsAt flowCount in omega arith
 

@@ -1,4 +1,4 @@
--- A head that is Ok comes back from its bytes, since each field stands at its own place and fits it.
+-- A head that is Ok is read back from its bytes, since each field has its own place and fits there.
 use Prim.Native.Nat.{ℕ, _^_, _<_}
 use native.Mathlib.Omega.{arith}
 use mathlib.Core.Path.{_≡_, refl}
@@ -45,7 +45,7 @@ module _ (h : Head) (ok : HeadOk h) where
 pub head-lawful : Lawful headCodec
 head-lawful = record { long = head-long; back = head-back }
 
--- narrow stores in a head's bytes
+-- stores of single fields in a head's bytes
 pub counter-bytes : (n : ℕ) (h : Head) → lay 4 (le 4 n) (headBytes h) ≡ headBytes (withCounter n h)
 unfolding headBytes pack le lay
 counter-bytes n h = refl

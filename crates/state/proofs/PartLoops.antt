@@ -1,4 +1,4 @@
--- A walk upward over the slots or the flows that stores one element a turn: what is known on the way, for any function W of the elements that are left.
+-- A walk upward over the slots or the flows that stores one element at a time: what is known on the way, for any function W of the elements that are left.
 -- A check of time is such a walk: it goes element by element.
 use Prim.Native.Nat.{ℕ, suc, _+_, _-_, _≤_, _<_}
 use native.Mathlib.Numerals.{add-one}
@@ -67,7 +67,7 @@ flowPart = record {
 }
 
 module _ {A : Type 0} (p : Part A) where
-  -- the elements that bytes hold, element i, and the stack with element i anew
+  -- the elements that bytes hold, element i, and the stack with another element i
   abbrev pub listIn : Sizes → List ℕ → List A
   listIn z b = p .get (stackOf z b)
 
@@ -106,7 +106,7 @@ module _ {A : Type 0} (p : Part A) where
     drop-next = rw (stored, add-one) (drop-set-lt (suc i) (listIn z b) i a (omega arith))
 
   module _ (z : Sizes) (W : List A → List A) where
-    -- from b₀ the walk has come to element i and to the bytes b
+    -- the walk, which began with the bytes b₀, has come to element i and to the bytes b
     pub record Walked (b₀ b : List ℕ) (i : ℕ) : Type 0 where
       pub within : i ≤ p .count z
       pub ahead : take i (listIn z b) ++ W (drop i (listIn z b)) ≡ W (listIn z b₀)
@@ -161,7 +161,7 @@ module _ {A : Type 0} (p : Part A) where
 
 -- ---- a check of time
 
--- a part whose elements have a time: one that is expired fades to the blank
+-- a part whose elements are timed: an expired one becomes the blank one
 pub record Timed (A : Type 0) : Type 1 where
   pub part : Part A
   pub time : ℕ → A → Timeout
@@ -189,7 +189,7 @@ module _ {A : Type 0} (p : Timed A) (z : Sizes) (now : ℕ) where
   abbrev fadedAt : ℕ → Stack → Stack
   fadedAt i st = restored (p .part) i (p .fade now (elementAt (p .part) i st)) st
 
-  -- a check that has come to element i: what was found goes on to what the whole check finds
+  -- a check that has come to element i: what was found so far, with what is found from i on, is what the whole check finds
   pub record Checked (b₀ : List ℕ) (c₀ : Check) (b : List ℕ) (c : Check) (i : ℕ) : Type 0 where
     pub walked : Walked (p .part) z (map (p .fade now)) b₀ b i
     pub found : checkOf (map (p .time now) (drop i (listIn (p .part) z b))) c ≡ checkOf (map (p .time now) (listIn (p .part) z b₀)) c₀
@@ -225,7 +225,7 @@ module _ {A : Type 0} (p : Timed A) (z : Sizes) (now : ℕ) where
     pub check-length : Kept z b₀ → length b ≡ length b₀
     check-length k = becomes-length z b₀ b _ k (w .walked .made)
 
-  -- one element of a check: read as y, its time is t, r is found with it, and it is expired as g says
+  -- one element of a check: it is read as y, its time is t, the check with it is r, and g says whether it is expired
   module _ (b : List ℕ) (i : ℕ) (c : Check) {y : A} {t : Timeout} {r : Check} {g : Bool}
       (read : y ≡ elementAt (p .part) i (stackOf z b)) (timed : t ≡ p .time now y) (noted : r ≡ checkOf (t ∷ []) c) (told : g ≡ isExpired t) where
     at-time : t ≡ timeAt i (stackOf z b)
@@ -239,13 +239,13 @@ module _ {A : Type 0} (p : Timed A) (z : Sizes) (now : ℕ) where
         let s = elementAt (p .part) i (stackOf z b) in
         sym (p .fades now s ∙ ap (λ (x : Bool). pick x (p .part .blank) s) (sym (told ∙ ap isExpired at-time) ∙ e))
 
-    -- expired, it goes
+    -- an expired element goes
     pub expire-gone : g ≡ true → {a : A} {x : List ℕ} → a ≡ p .part .blank → Becomes z b x (restored (p .part) i a (stackOf z b))
         → (r ≡ checkOf (timeAt i (stackOf z b) ∷ []) c) × Becomes z b x (fadedAt i (stackOf z b))
     unfolding pick
     expire-gone e q s = (found-one, stored-as (p .part) z b i _ _ _ (q ∙ fades-to true e) s)
 
-    -- else it stays
+    -- any other stays
     pub expire-stays : g ≡ false → Kept z b → (r ≡ checkOf (timeAt i (stackOf z b) ∷ []) c) × Becomes z b b (fadedAt i (stackOf z b))
     unfolding pick
     expire-stays e k = (found-one, stored-as (p .part) z b i b _ _ (fades-to false e) (same-stored (p .part) z b i k))

@@ -1,4 +1,4 @@
--- A slot that is Ok comes back from its bytes, since each field stands at its own place and fits it.
+-- A slot that is Ok is read back from its bytes, since each field has its own place and fits there.
 use Prim.Native.Nat.{ℕ, _+_, _/_, _%_, _<_, _≤_}
 use native.Mathlib.Omega.{arith}
 use mathlib.Core.Path.{_≡_, refl, ap, _∙_}
@@ -149,7 +149,7 @@ pub slot-rows : (s : Reassembler) (b : List ℕ) →
 unfolding puts slotBytes
 slot-rows s b = puts-lay 0 (slotRow s) b
 
--- a narrow store in a slot's bytes
+-- a store of sequence and length alone in a slot's bytes
 pub progress-bytes : (p : Progress) (s : Reassembler) → puts 5 (progressRow p) (slotBytes s) ≡ slotBytes (progress (p .seq) (p .len) s)
 unfolding slotBytes pack le puts lay
 progress-bytes p s = refl

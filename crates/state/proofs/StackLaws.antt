@@ -36,7 +36,7 @@ flowPlace i = flowsAt + flowWidth * i
 abbrev pub slotPlace : ℕ → ℕ
 slotPlace i = slotsAt + slotWidth * i
 
--- a block of w bytes as it is lent, `b[at..at + w]`, and the whole once it comes back as s
+-- a block of w bytes as it is lent, `b[at..at + w]`, and the whole buffer once the block comes back as s
 abbrev pub lentAs : ℕ → ℕ → List ℕ → List ℕ
 lentAs at w b = take ((at + w) - at) (drop at b)
 
@@ -52,7 +52,7 @@ module _ (z : Sizes) (b : List ℕ) where
   unfolding stackOf
   flows-length = region-length flowCodec flowCount flowsAt b
 
-  -- nothing was stored
+  -- where nothing is stored, the stack stays
   pub stays : Kept z b → Becomes z b b (stackOf z b)
   stays k = record { view = refl; kept = k; rest = refl }
 
@@ -67,7 +67,7 @@ unfolding bytes
 bytes-any B [] = refl
 bytes-any B (s ∷ l) = ap (λ (t : List ℕ). slotBytes s ++ t) (bytes-any B l)
 
--- element i of a region that is regular, d past its end
+-- element i of a region that is regular, or d past its end
 module _ {A : Type 0} (C : Codec A) (n at : ℕ) (b : List ℕ) (d : A) (r : Regular C n at b) (i : ℕ) where
   abbrev element : A
   element = getD (region C n at b) i d
@@ -93,7 +93,7 @@ module _ {A : Type 0} (C : Codec A) (n at : ℕ) (b : List ℕ) (d : A) (r : Reg
         (λ y. let h = ltb-true i n y in rw (block-get h, ← place-is (C .width) at i) (regular-get C n at i b h r .ok))
         (λ e. rw (block-past (ltb-false i n e)) blank)
 
-    -- read as v, where it is lent
+    -- the value v that is read from the lent block
     block-read : (v : A) → i < n → v ≡ C .dec (lentAs (at + C .width * i) (C .width) b) → (v ≡ element) × C .Ok v
     block-read v h e =
         let q : v ≡ element = e ∙ rw (lent (at + C .width * i) (C .width) b) (sym (block-get h)) in
@@ -104,7 +104,7 @@ module _ {A : Type 0} (C : Codec A) (n at : ℕ) (b : List ℕ) (d : A) (r : Reg
     blank-read v h e = (e ∙ sym (block-past h), rw e blank)
 
 module _ {A : Type 0} (C : Codec A) (L : Lawful C) where
-  -- the block at `at` is x's bytes; lent, it comes back as f makes it, and those are y's bytes
+  -- the block at `at` holds x's bytes; it is lent and comes back as f makes it, and then it holds y's bytes
   block-back : (at : ℕ) (b : List ℕ) (x y : A) (f : List ℕ → List ℕ) (s : List ℕ) → at + C .width ≤ length b → lentAs at (C .width) b ≡ C .enc x
       → f (C .enc x) ≡ C .enc y → s ≡ f (lentAs at (C .width) b) → backAs at (C .width) s b ≡ over at (C .enc y) b
   block-back at b x y f s l p q e =
@@ -228,7 +228,7 @@ module _ (z : Sizes) (b : List ℕ) (k : Kept z b) where
     unfolding stackOf
     slot-none = blank-read (slotCodec (z .body)) (z .slots) slotsAt b blankSlot (k .slots) i (slot-blank (z .body))
 
-    -- a store past the last slot is none
+    -- a store past the last slot stores nothing
     pub slot-stays : (s : Reassembler) → z .slots ≤ i → Becomes z b b (withSlot i s (stackOf z b))
     slot-stays s h =
         let n = slots-length z b in
@@ -312,14 +312,14 @@ module _ (z : Sizes) (b : List ℕ) (k : Kept z b) where
   pub kept-bytes : b ≡ encode (stackOf z b) ++ drop (size z) b
   kept-bytes = rw encoded (sym (take-append-drop (size z) b))
 
--- two buffers that come of one and hold the same are the same
+-- two buffers that come from the same one and hold the same stack are the same
 pub determined : (z : Sizes) (b x y : List ℕ) (st : Stack) → Becomes z b x st → Becomes z b y st → x ≡ y
 determined z b x y st p q =
     let e : stackOf z x ≡ stackOf z y = p .view ∙ sym (q .view) in
     let d : drop (size z) x ≡ drop (size z) y = p .rest ∙ sym (q .rest) in
     kept-bytes z x (p .kept) ∙ rw (e, d) (sym (kept-bytes z y (q .kept)))
 
--- one after the other
+-- one store after another
 pub andThen : (z : Sizes) (f : Stack → Stack) (b x y : List ℕ) (st : Stack) → Becomes z b x st → Becomes z x y (f (stackOf z x)) → Becomes z b y (f st)
 andThen z f b x y st p q = record { view = q .view ∙ ap f (p .view); kept = q .kept; rest = q .rest ∙ p .rest }
 

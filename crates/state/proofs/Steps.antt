@@ -1,4 +1,4 @@
--- A stack said otherwise; a call that says something and makes a stack, after another store; and two outcomes of one call are one.
+-- Three laws: a stack may be written in another way; a call that answers and makes a stack may come after another store; one call has only one outcome.
 use Prim.Native.Nat.{ℕ}
 use mathlib.Core.Path.{_≡_, sym, ap, subst, _∙_}
 use mathlib.Core.List.{List}
@@ -6,7 +6,7 @@ use Rattle.state.specs.declared.Sizes.{Sizes}
 use Rattle.state.specs.Stack.{Stack, Becomes, stackOf}
 use Rattle.state.proofs.StackLaws.{andThen, determined}
 
--- the same stack, said otherwise
+-- the same stack, written in another way
 pub becomes-as : (z : Sizes) (b b′ : List ℕ) {s t : Stack} → s ≡ t → Becomes z b b′ s → Becomes z b b′ t
 becomes-as z b b′ e h = subst (λ (x : Stack). Becomes z b b′ x) e h
 

@@ -1,4 +1,4 @@
--- The number that a slot's state and key make tells what the slot collects: each part stands at its own digits.
+-- The number that a slot's state and key make tells what the slot collects, since each part has its own digits.
 use Prim.Native.Nat.{ℕ, _+_, _*_, _/_, _%_, _<_}
 use native.Mathlib.Omega.{arith}
 use mathlib.Core.Path.{_≡_, refl, sym, ap, _∙_}

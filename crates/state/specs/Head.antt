@@ -1,4 +1,4 @@
--- What the stack has once, in 40 bytes.
+-- The head holds what a stack has only one of, in 40 bytes.
 -- Each update changes the fields that it names (`headWith`).
 -- Leans on `octets` for numbers in bytes, on `stamp` for the clock.
 use Prim.Native.Nat.{ℕ, _+_, _%_, _^_, _<_, _≤_}
@@ -44,11 +44,11 @@ pub record HeadOk (h : Head) : Type 0 where
 abbrev pub headCodec : Codec Head
 headCodec = record { width = headWidth; enc = headBytes; dec = headOf; Ok = HeadOk }
 
--- the head with all but its MTU anew
+-- the head with new values for all fields but its MTU
 abbrev pub headWith : Eid → EventStamp → ℕ → ℕ → ℕ → ℕ → Head → Head
 headWith own now planned tag seq issue h = record { «own_eid» = own; mtu = h .mtu; now = now; «next_timeout» = planned; «next_tag» = tag; «next_seq» = seq; issue = issue }
 
--- the head with one part anew
+-- the head with one field changed
 abbrev pub withOwn : Eid → Head → Head
 withOwn own h = headWith own (h .now) (h .«next_timeout») (h .«next_tag») (h .«next_seq») (h .issue) h
 

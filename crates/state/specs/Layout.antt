@@ -1,5 +1,5 @@
 -- Where the parts of the state lie: a head, the flow places, then the slots; the code's constants say the same.
--- The number of slots moves the end alone.
+-- The number of slots moves the end of the state, and nothing before the slots.
 -- Leans on `flows` for a place's width, on `config` for their number.
 use Prim.Native.Nat.{ℕ, _+_, _*_, _≤_}
 use Rattle.config.specs.Config.{flowCount}

@@ -1,5 +1,5 @@
 -- A slot in 40 bytes: its state, then its key in wire order, so that one number of 4 bytes tells what it collects.
--- `SlotOk` are the ranges that a slot's fields always have.
+-- `SlotOk` says the ranges that a slot's fields always have.
 -- Leans on `octets` for numbers in bytes, on `mctp` for keys and types, on `slot` for the record.
 use Prim.Native.Nat.{ℕ, _+_, _*_, _/_, _%_, _^_, _<_, _≤_}
 use mathlib.Core.List.{List, [], _∷_, _++_}
@@ -30,7 +30,7 @@ stateFrom n issue = pick (eqb n 1) Collecting (pick (eqb n 2) Done (pick (eqb n 
 abbrev pub ownerTag : Key → ℕ
 ownerTag k = bit (k .owner) 8 + k .tag .0
 
--- in two rows, as they are stored
+-- the fields of a slot in two rows, as they are stored
 abbrev pub leadRow : ℕ → ℕ → ℕ → ℕ → ℕ → ℕ → ℕ → List (ℕ × ℕ)
 leadRow state dest source from kind seq len = (1, state) ∷ (1, dest) ∷ (1, source) ∷ (1, from) ∷ (1, kind) ∷ (1, seq) ∷ (2, len) ∷ []
 
@@ -62,7 +62,7 @@ slotOf b = record {
   stamp = record { clock = field 16 8 b; counter = field 8 4 b };
 }
 
--- the ranges that a slot's fields always have; B is the most that a body holds
+-- the ranges that a slot's fields always have; B is the most bytes that a body holds
 pub record SlotOk (B : ℕ) (s : Reassembler) : Type 0 where
   pub dest : s .key .dest .0 < 256
   pub source : s .key .source .0 < 256

@@ -38,8 +38,8 @@ stackOf z b = record {
 unfoldable pub encode : Stack → List ℕ
 encode st = headBytes (st .head) ++ (bytes flowCodec (st .flows) ++ bytes (slotCodec 0) (st .slots))
 
--- bytes such as earlier calls give: each part is the bytes of a record whose fields have their ranges. `new` gives it, every store keeps it (`Becomes`),
--- and nothing more is asked, so the contracts hold of every such state
+-- bytes such as earlier calls give: each part is the bytes of a record whose fields have their ranges. `new` gives such bytes, every store keeps them so
+-- (`Becomes`), and nothing more is asked, so the contracts hold for every such state
 pub record Kept (z : Sizes) (b : List ℕ) : Type 0 where
   pub sizes : SizesOk z
   pub long : size z ≤ length b
@@ -47,7 +47,7 @@ pub record Kept (z : Sizes) (b : List ℕ) : Type 0 where
   pub flows : Regular flowCodec flowCount flowsAt b
   pub slots : Regular (slotCodec (z .body)) (z .slots) slotsAt b
 
--- from b comes b′, which holds st; what lies past the state stays
+-- the bytes b become b′, which hold st; what lies past the state stays
 pub record Becomes (z : Sizes) (b b′ : List ℕ) (st : Stack) : Type 0 where
   pub view : stackOf z b′ ≡ st
   pub kept : Kept z b′
@@ -72,7 +72,7 @@ flowAt i st = getD (st .flows) i noFlow
 abbrev pub withStamp : EventStamp → Stack → Stack
 withStamp now st = withHead (withNow now (st .head)) st
 
--- one event is counted
+-- the stack with one more event counted
 abbrev pub ticked : Stack → Stack
 ticked st = withStamp (next (st .head .now)) st
 

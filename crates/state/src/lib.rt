@@ -1,5 +1,5 @@
-// The stack's state, kept in bytes that the caller lends: where each part lies, its codec, and its accessors. Nothing above reads a byte's meaning.
-// A head of 40 bytes, 64 flow places of 32, then the slots of 40, last, so that their number moves no offset.
+// The stack's state, kept in bytes that the caller lends: where each part lies, its codec, and its accessors. No crate above looks at what single bytes mean.
+// A head of 40 bytes comes first, then 64 flow places of 32 bytes, then the slots of 40. The slots come last so that their number moves no offset.
 // Leans on `octets` for numbers in bytes and blocks, on `flows` and `slot` for the records. Definitions: specs/Layout.antt, Head.antt, Slot.antt, Stack.antt.
 ghost use mathlib.Core.Path.{_≡_};
 ghost use Prim.Native.Nat.{_+_, _%_, _≤_, _<_, _^_};
@@ -53,7 +53,7 @@ impl Sizes {
     };
 }
 
-// What the stack has once.
+// What a stack has only one of.
 pub struct Head {
     pub own_eid: Eid,
     pub mtu: usize,
@@ -88,7 +88,7 @@ impl Head {
         self.with(own, stamp, self.next_timeout)
     }
 
-    // Another stamp of the last event, and another planned check.
+    // The head with another stamp of the last event, and another planned check.
     pub fn with_clock(self, stamp: EventStamp, planned: u64) -> Head
         requires { ⌜ HeadOk self ⌝ }
         ensures stamped { λ r. ⌜ r ≡ withPlanned planned (withNow stamp self) ⌝ }
@@ -314,7 +314,7 @@ pub fn now_at(state: &[u8], sizes: Sizes) -> EventStamp
     }
 }
 
-// The last event's counter, at the same clock.
+// Stores the last event's counter; its clock stays.
 pub fn put_counter(state: &mut [u8], sizes: Sizes, counter: u32)
     requires { ⌜ Kept sizes (now state) ⌝ }
     ensures { λ _. ⌜ Becomes sizes (now (state .entry)) (now (state .exit)) (withHead (withCounter counter (stackOf sizes (now (state .entry)) .head)) (stackOf sizes (now (state .entry)))) ⌝ }
@@ -339,7 +339,7 @@ pub fn mtu_at(state: &[u8], sizes: Sizes) -> usize
     get8(&state[0..HEAD_WIDTH], 32) as usize
 }
 
-// The tag counter goes up by 1 modulo 8: what it is then.
+// Moves the tag counter up by 1 modulo 8, and tells what it is then.
 pub fn next_tag(state: &mut [u8], sizes: Sizes) -> u8
     requires { ⌜ Kept sizes (now state) ⌝ }
     ensures { λ r. ⌜ (r ≡ (stackOf sizes (now (state .entry)) .head .«next_tag» % 8 + 1) % 8) × Becomes sizes (now (state .entry)) (now (state .exit)) (withHead (withNextTag ((stackOf sizes (now (state .entry)) .head .«next_tag» % 8 + 1) % 8) (stackOf sizes (now (state .entry)) .head)) (stackOf sizes (now (state .entry)))) ⌝ }
@@ -349,7 +349,7 @@ pub fn next_tag(state: &mut [u8], sizes: Sizes) -> u8
     tag
 }
 
-// The sequence goes up by 1 modulo 4: what it is then.
+// Moves the sequence up by 1 modulo 4, and tells what it is then.
 pub fn next_seq(state: &mut [u8], sizes: Sizes) -> u8
     requires { ⌜ Kept sizes (now state) ⌝ }
     ensures { λ r. ⌜ (r ≡ withNextSeq (stackOf sizes (now (state .entry)) .head) .«next_seq») × Becomes sizes (now (state .entry)) (now (state .exit)) (withHead (withNextSeq (stackOf sizes (now (state .entry)) .head)) (stackOf sizes (now (state .entry)))) ⌝ }
@@ -373,7 +373,7 @@ pub fn put_issue(state: &mut [u8], sizes: Sizes, issue: u64)
     put8(&mut state[0..HEAD_WIDTH], 24, issue);
 }
 
-// Slot i; past the last, an empty one.
+// Slot i, or an empty one past the last.
 pub fn slot_at(state: &[u8], sizes: Sizes, i: usize) -> Reassembler
     requires { ⌜ Kept sizes (now state) ⌝ }
     ensures { λ r. ⌜ (r ≡ slotAt i (stackOf sizes (now (state .entry)))) × SlotOk (sizes .body) r ⌝ }
@@ -386,7 +386,7 @@ pub fn slot_at(state: &[u8], sizes: Sizes, i: usize) -> Reassembler
     read_slot(&state[at..end])
 }
 
-// Past the last slot nothing is stored.
+// Stores slot i; past the last slot nothing is stored.
 pub fn put_slot(state: &mut [u8], sizes: Sizes, i: usize, s: Reassembler)
     requires { ⌜ Kept sizes (now state) × SlotOk (sizes .body) s ⌝ }
     ensures { λ _. ⌜ Becomes sizes (now (state .entry)) (now (state .exit)) (withSlot i s (stackOf sizes (now (state .entry)))) ⌝ }
@@ -399,7 +399,7 @@ pub fn put_slot(state: &mut [u8], sizes: Sizes, i: usize, s: Reassembler)
     write_slot(&mut state[at..end], s);
 }
 
-// A slot that goes on collecting: sequence and length alone.
+// Stores the sequence and the length of a slot that goes on collecting, and nothing else.
 pub fn put_progress(state: &mut [u8], sizes: Sizes, i: usize, p: Progress)
     requires { ⌜ Kept sizes (now state) × ProgressOk (sizes .body) p ⌝ }
     ensures { λ _. ⌜ Becomes sizes (now (state .entry)) (now (state .exit)) (withSlot i (progress (p .seq) (p .len) (slotAt i (stackOf sizes (now (state .entry))))) (stackOf sizes (now (state .entry)))) ⌝ }
@@ -444,7 +444,7 @@ pub fn word_at(state: &[u8], sizes: Sizes, i: usize) -> u32
     get4(&state[at..end], 0)
 }
 
-// A slot's state alone, as its number: the lowest byte of that.
+// A slot's state alone, as its number: the lowest byte of that word.
 pub fn state_at(state: &[u8], sizes: Sizes, i: usize) -> u8
     requires { ⌜ Kept sizes (now state) ⌝ }
     ensures { λ r. ⌜ r ≡ stateNo (slotAt i (stackOf sizes (now (state .entry))) .state) ⌝ }
@@ -452,7 +452,7 @@ pub fn state_at(state: &[u8], sizes: Sizes, i: usize) -> u8
     (word_at(state, sizes, i) % 256) as u8
 }
 
-// The flow at place i; past the last, none.
+// The flow at place i, or none past the last.
 pub fn flow_at(state: &[u8], sizes: Sizes, i: usize) -> Flow
     requires { ⌜ Kept sizes (now state) ⌝ }
     ensures { λ r. ⌜ (r ≡ flowAt i (stackOf sizes (now (state .entry)))) × FlowOk r ⌝ }
@@ -465,7 +465,7 @@ pub fn flow_at(state: &[u8], sizes: Sizes, i: usize) -> Flow
     flows::read_flow(&state[at..end])
 }
 
-// Past the last place nothing is stored.
+// Stores the flow at place i; past the last place nothing is stored.
 pub fn put_flow(state: &mut [u8], sizes: Sizes, i: usize, f: Flow)
     requires { ⌜ Kept sizes (now state) × FlowOk f ⌝ }
     ensures { λ _. ⌜ Becomes sizes (now (state .entry)) (now (state .exit)) (withFlow i f (stackOf sizes (now (state .entry)))) ⌝ }
@@ -491,7 +491,7 @@ pub fn flow_word_at(state: &[u8], sizes: Sizes, i: usize) -> u32
     get4(&state[at..end], 0)
 }
 
-// Zeros over the first `n` bytes, as far as there are any: a state that is all zeros is a fresh one.
+// Writes zeros over the first `n` bytes, as far as there are any: a state that is all zeros is a fresh one.
 pub fn clear(b: &mut [u8], n: usize)
     ensures { λ _. ⌜ now (b .exit) ≡ lay 0 (replicate n 0) (now (b .entry)) ⌝ }
 {

@@ -1,4 +1,4 @@
--- `counted` meets its contract: an event where the flow expires, nothing elsewhere.
+-- `counted` meets its contract: it counts an event where the flow expires, and none otherwise.
 use Rattle.octets.specs.Pick.{pick-true, pick-false}
 use Rattle.stamp.specs.declared.EventStamp.{EventStamp}
 use Rattle.stamp.specs.Stamp.{next}

@@ -1,4 +1,4 @@
--- `expire_flow` asks the time once: expired, the flow goes, else it is as it was.
+-- `expire_flow` asks for the flow's time once: an expired flow goes, any other stays as it was.
 use mathlib.Core.Path.{sym, subst}
 use Rattle.flows.specs.declared.Flow.{Flow}
 use Rattle.flows.specs.Codec.{FlowOk}

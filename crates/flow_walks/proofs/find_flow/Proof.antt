@@ -1,4 +1,4 @@
--- `find_flow` meets its contract: the word of a place says whether it is that peer's and that tag's.
+-- `find_flow` meets its contract: the word of a place says whether the place belongs to that peer and tag.
 use Rattle.flow_walks.proofs.FlowLaws.{word-place}
 use denote.Ref.{now}
 use native.Mathlib.Omega.{arith}

@@ -1,4 +1,4 @@
--- `set_flow` meets its contract: the wish says which of the two is called; a tag above 7 is refused first.
+-- `set_flow` meets its contract: the wish says whether `fresh_flow` or `fixed_flow` is called; a tag above 7 is refused first.
 use Rattle.state.specs.Stack.{stackOf}
 use denote.Ref.{now}
 use Rattle.mctp.specs.declared.Error.the-variants.{InvalidInput}

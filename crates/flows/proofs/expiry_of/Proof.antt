@@ -1,4 +1,4 @@
--- Kind 1 is an expiry from a stamp, any other none, as in the definition.
+-- Kind 1 is an expiry from a stamp and any other kind is none, as in the definition.
 use Rattle.octets.proofs.Tests.{picks}
 use Rattle.flows.specs.Codec.{expiryOf}
 use Rattle.flows.proofs.expiry_of.Statement.{statement}

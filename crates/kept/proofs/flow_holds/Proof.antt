@@ -1,4 +1,4 @@
--- The flow is read, and its tag tested; written anew it is the block where that is a flow's (`reheld`).
+-- The flow is read and its tag is tested; written out again it equals the block exactly where the block holds a flow (`reheld`).
 use mathlib.Core.Path.{refl}
 use native.Mathlib.Omega.{arith}
 use denote.Ref.{now}

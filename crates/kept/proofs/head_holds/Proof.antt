@@ -1,4 +1,5 @@
--- The head is read, and what its bytes leave open is tested; written anew it is the block where that is a head's (`reheld`).
+-- The head is read, and the ranges that its bytes do not give are tested; written out again it equals the block exactly where the block holds a head
+-- (`reheld`).
 use mathlib.Core.Path.{refl}
 use denote.Ref.{now}
 use Rattle.state.specs.Head.{headCodec}

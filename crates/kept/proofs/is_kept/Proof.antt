@@ -1,4 +1,4 @@
--- Each test refuses what `Kept` asks, and past the last all of it holds.
+-- Where a test fails, something that `Kept` asks does not hold; past the last test all of it holds.
 use native.Mathlib.Omega.{arith}
 use Rattle.kept.proofs.TellLaws.{says-no, refuted, shown, tells-as, halves}
 use borrow.Author.Needs.{needs}

@@ -1,4 +1,4 @@
--- Two slices of one length are the same where each byte is; so far the first i are.
+-- Two slices of the same length are the same where each byte is; so far the first i bytes are.
 use Prim.Native.Nat.{ℕ, _-_, _<_, _≤_}
 use native.Mathlib.Omega.{arith}
 use mathlib.Core.Path.{_≡_, ap}

@@ -1,4 +1,4 @@
--- Each test refuses a slot out of its range.
+-- Each test refuses a slot that is out of its range.
 use native.Mathlib.Omega.{arith}
 use Rattle.kept.proofs.TellLaws.{says-no}
 use borrow.Author.Tests.{leb-true, le-leb}

@@ -1,4 +1,4 @@
--- The first i slots are regular; one that is not refuses all (`blocks-not`).
+-- So far the first i slots are regular; one that is not makes the answer no (`blocks-not`).
 use Prim.Native.Nat.{_-_, _≤_}
 use denote.Ref.{now}
 use Rattle.octets.specs.Region.{Regular}

@@ -1,4 +1,4 @@
--- `contains` walks upward: what is ahead of `i` has the number just where the whole list has it.
+-- `contains` walks upward: the rest of the list from `i` on has the number exactly where the whole list has it.
 use Prim.Native.Nat.{ℕ, _+_, _-_, _≤_, _<_}
 use native.Mathlib.Numerals.{add-one}
 use mathlib.Core.Path.{_≡_, refl, sym, ap, _∙_}

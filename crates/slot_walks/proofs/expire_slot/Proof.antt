@@ -1,4 +1,4 @@
--- `expire_slot` asks the time once: expired, the slot is blank, else it is as it was.
+-- `expire_slot` asks for the slot's time once: an expired slot becomes blank, any other stays as it was.
 use mathlib.Core.Path.{sym, subst}
 use Rattle.slot.specs.declared.Reassembler.{Reassembler}
 use Rattle.state.specs.Slot.{SlotOk}

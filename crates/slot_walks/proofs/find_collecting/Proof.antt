@@ -1,4 +1,4 @@
--- `find_collecting` looks for the number of its key: a slot has it just where it collects under the key. No slot is kept under a tag above 7.
+-- `find_collecting` looks for the number of its key: a slot has that number exactly where it collects under the key. No slot is kept under a tag above 7.
 use mathlib.Core.Path.{_≡_, sym, ap, _∙_}
 use mathlib.Core.Bool.{true}
 use native.Mathlib.Omega.{arith}

@@ -1,4 +1,4 @@
--- `is_listed` asks `contains` for a cookie that is there; one that is absent is in no list.
+-- `is_listed` asks `contains` about a cookie that is given; an absent cookie is in no list.
 use mathlib.Core.Path.{_≡_, refl}
 use mathlib.Core.Bool.{false}
 use mathlib.Core.List.{List, [], _∷_}

@@ -1,4 +1,4 @@
--- `sweep` walks upward: what is ahead of `i` is swept as from the start, and stops as from the start (`Swept`).
+-- `sweep` walks upward: a walk from `i` on sweeps and stops where the walk from the start does (`Swept`).
 use Prim.Native.Nat.{_-_}
 use denote.Ref.{now}
 use borrow.Author.Needs.{needs}

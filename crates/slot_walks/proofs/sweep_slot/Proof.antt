@@ -1,4 +1,4 @@
--- `sweep_slot` tests as the definition does: a slot that is no reply, or has a handle out, is as it was.
+-- `sweep_slot` tests as the definition does: a slot that is no reply, or has a handle out, stays as it was.
 use mathlib.Core.Path.{sym, ap, subst, _∙_}
 use denote.Ref.{now}
 use Rattle.slot.specs.declared.Reassembler.{Reassembler}

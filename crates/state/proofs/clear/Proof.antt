@@ -1,4 +1,4 @@
--- `clear` stores a zero a turn: so far i zeros are laid over the bytes. Past the end more zeros change nothing.
+-- `clear` stores one zero at a time: so far i zeros are laid over the bytes. Past the end more zeros change nothing.
 use Prim.Native.Nat.{ℕ, zero, suc, _+_, _-_, _≤_}
 use native.Mathlib.Omega.{arith}
 use mathlib.Core.Path.{_≡_, refl, sym, ap, _∙_}
@@ -10,7 +10,7 @@ use borrow.Author.Needs.{needs}
 use Rattle.state.proofs.clear.Statement.{statement}
 use Rattle.state.proofs.clear.Tie as tie
 
--- one zero more
+-- one more zero
 clear-next : (i : ℕ) (l : List ℕ) {e : List ℕ} → e ≡ lay 0 (replicate i 0) l → set e i 0 ≡ lay 0 (replicate (i + 1) 0) l
 clear-next i l {e} u =
     let z : List ℕ = replicate i 0 in

@@ -1,4 +1,4 @@
--- Flow i is what its block says, or past the last the blank one; its fields have their ranges (`flow-read`, `flow-none`).
+-- Flow i is what its block says, or the blank one past the last; its fields have their ranges (`flow-read`, `flow-none`).
 use native.Mathlib.Omega.{arith}
 use Rattle.state.proofs.StackLaws.{flow-read, flow-none}
 use borrow.Author.Needs.{needs}

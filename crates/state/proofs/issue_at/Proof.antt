@@ -1,4 +1,4 @@
--- The next issue number stands in the head, at byte 24.
+-- The issue count stands in the head, at byte 24.
 use denote.Ref.{now}
 use mathlib.Core.Path.{ap, _∙_}
 use Rattle.state.specs.declared.Head.{Head}

@@ -1,4 +1,4 @@
--- A narrow store in the head's bytes gives the bytes of the head with the next sequence (`seq-bytes`).
+-- A store of one field in the head's bytes gives the bytes of the head with the next sequence (`seq-bytes`).
 use denote.Ref.{now}
 use Prim.Native.Nat.{ℕ, _+_, _%_}
 use mathlib.Core.Path.{ap, _∙_}

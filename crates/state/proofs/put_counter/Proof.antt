@@ -1,4 +1,4 @@
--- A narrow store in the head's bytes gives the bytes of the head with that field anew (`counter-bytes`).
+-- A store of one field in the head's bytes gives the bytes of the head with that field changed (`counter-bytes`).
 use denote.Ref.{now}
 use native.Mathlib.Omega.{arith}
 use Rattle.octets.specs.Bytes.{le, lay}

@@ -1,4 +1,4 @@
--- A narrow store in a slot's bytes gives the bytes of the slot with that sequence and length (`progress-bytes`).
+-- A store of two fields in a slot's bytes gives the bytes of the slot with that sequence and length (`progress-bytes`).
 use denote.Ref.{now}
 use native.Mathlib.Omega.{arith}
 use Rattle.octets.specs.Bytes.{puts}

@@ -1,4 +1,4 @@
--- Slot i is what its block says, or past the last the blank one; its fields have their ranges (`slot-read`, `slot-none`).
+-- Slot i is what its block says, or the blank one past the last; its fields have their ranges (`slot-read`, `slot-none`).
 use native.Mathlib.Omega.{arith}
 use Rattle.state.proofs.StackLaws.{slot-read, slot-none}
 use borrow.Author.Needs.{needs}

@@ -1,4 +1,4 @@
--- `Fragmenter::fragment` meets its contract: a walk of its MIR, by hand. The borrow of the fragmenter is opened, the record is copied out and
+-- `Fragmenter::fragment` meets its contract, by a walk of its MIR. The borrow of the fragmenter is opened, the record is copied out and
 -- passed by value to `step`, of which the proof knows only its contract; the record that comes back is stored, and the borrow closed at it.
 -- `payload` and `out` go to the callee at their own lifetimes, and nothing of them has to come back. Assumes nothing.
 use mathlib.Core.Path.{_≡_, refl, ap}

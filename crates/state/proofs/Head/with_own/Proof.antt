@@ -1,4 +1,4 @@
--- Another own EID plans no check, so the one that is planned is as soon as before.
+-- Another own EID changes no planned check, so the planned one is still at most 100 ms away.
 use borrow.Author.Needs.{needs}
 use Rattle.state.proofs.Head.with_own.Statement.{statement}
 use Rattle.state.proofs.Head.with_own.Tie as tie
