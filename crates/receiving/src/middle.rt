@@ -15,7 +15,7 @@ use state::Progress;
 use state::Sizes;
 
 // A middle packet of n bytes: neither first nor last, in turn, with room.
-pub fn is_middle(h: Header, p: Progress, n: usize, body: usize) -> bool
+pub(crate) fn is_middle(h: Header, p: Progress, n: usize, body: usize) -> bool
     requires { ⌜ p .len ≤ body ⌝ }
     ensures { λ r. ⌜ r ≡ isMiddle h p n body ⌝ }
 {
@@ -32,7 +32,7 @@ pub fn is_middle(h: Header, p: Progress, n: usize, body: usize) -> bool
 }
 
 // A middle packet: of its slot the sequence and the length alone change.
-pub fn append_middle(
+pub(crate) fn append_middle(
     state: &mut [u8],
     sizes: Sizes,
     pool: &mut [u8],
