@@ -23,7 +23,7 @@ use state::SLOT_WIDTH;
 use state::SLOTS_AT;
 use state::Sizes;
 
-fn same_bytes(a: &[u8], b: &[u8]) -> bool
+pub fn same_bytes(a: &[u8], b: &[u8]) -> bool
     ensures { λ r. ⌜ Tells (now (a .entry) ≡ now (b .entry)) r ⌝ }
 {
     if a.len() != b.len() {

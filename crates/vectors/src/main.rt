@@ -1,6 +1,6 @@
 // Replays a stored list of calls on the exported calls, and compares each answer with the one that stands beside it: the original's, or where docs/RULES.md
 // adds a rule, that rule's. It writes how many calls there were, and the first that differs. The list is the file `stdin`; oracle/README.md says how it is made.
-// Leans on `vectors_calls` for a call by its number, on `octets` for the records.
+// Leans on `vectors_calls` for a call by its number, on `octets` for the records, on `kept` for two buffers compared.
 ghost use Prim.Native.Nat.{_≤_};
 ghost use lib.ListN.{length};
 ghost use Rattle.state.specs.Stack.{Kept};
@@ -80,17 +80,6 @@ fn same_words(a: &[u64; 16], b: &[u64; 16]) -> bool {
     true
 }
 
-fn same_bytes(a: &[u8; 2048], b: &[u8; 2048]) -> bool {
-    let mut i = 0;
-    while i < 2048 {
-        if a[i] != b[i] {
-            return false;
-        }
-        i += 1;
-    }
-    true
-}
-
 // What a turn of the list ends in: no record is left, the answer is the one that stands in the list, or another.
 enum Outcome {
     End,
@@ -119,7 +108,7 @@ fn same(
     if !same_words(got, w) {
         return Outcome::Differs;
     }
-    if !same_bytes(body, b) {
+    if !kept::same_bytes(body, b) {
         return Outcome::Differs;
     }
     Outcome::Same
