@@ -14,9 +14,10 @@ use figures_parts::packets;
 use figures_parts::receive;
 use figures_parts::update;
 
-// The stack's own EID, and the endpoint that it talks with.
+// The stack's own EID.
 const OWN: u8 = 8;
 
+// The endpoint that it talks with.
 const PEER: u8 = 9;
 
 // The stack's MTU where a figure names none.
@@ -25,11 +26,13 @@ const MTU: usize = 255;
 // A packet buffer with room for any packet.
 const ROOM: usize = 255;
 
-// What a packet that comes in begins with: version, destination, source, flags, type. Both kinds of flags have sequence 0, TO and tag 1.
+// A packet that comes in begins with version, destination, source, flags and type.
 const VERSION: u8 = 1;
-// SOM and EOM
+
+// The flags of a packet that is a whole message: SOM, EOM, sequence 0, TO, tag 1.
 const WHOLE: u8 = 0xc9;
-// SOM alone
+
+// The flags of one that opens a longer message: the same without EOM.
 const OPENING: u8 = 0x89;
 
 const TYPE: u8 = 1;
