@@ -1,4 +1,4 @@
--- What `new` makes where it answers 0 is kept.
+-- Where `new` answers 0, the bytes that it makes are a kept state.
 use Prim.Native.Nat.{ℕ}
 use mathlib.Core.Path.{_≡_}
 use mathlib.Core.List.{List}

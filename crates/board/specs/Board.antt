@@ -1,6 +1,6 @@
 -- The board's sizes, and a send as the exported call reads it from a row.
--- What the other calls answer is in `rows`, what they do in `estack` and the crates that it hands on.
--- Leans on `sending` for the send, on `rows` for its row.
+-- What the other calls do and answer is defined in `estack` and the crates whose calls it passes on.
+-- Leans on `sending` for the send, on `rows` for its row, on `state` for sizes and stack.
 use mathlib.Core.List.{List}
 use Prim.Native.Nat.{ℕ}
 use Rattle.config.specs.Config.{slotCount, maxPayload}
@@ -12,10 +12,10 @@ use Rattle.state.specs.Stack.{Stack}
 use Rattle.sending.specs.Sends.{Sent, unsent, startSendOf}
 use Rattle.rows.specs.Words.{goodSend, sendOf}
 
--- four slots, bodies of at most 1,032 bytes
+-- the board has four slots, and bodies of at most 1,032 bytes
 abbrev pub board : Sizes
 board = record { slots = slotCount; body = maxPayload }
 
--- a row that is no goodSend send is InvalidInput, with nothing changed
+-- a row that is not a good send is InvalidInput, and nothing changes
 unfoldable pub startOf : List ℕ → Stack → Sent
 startOf w st = pick (goodSend w) (startSendOf (sendOf w) st) (unsent st (Unstarted InvalidInput))

@@ -1,4 +1,4 @@
-// The calls. The one premise is the state's: it is one that `hyphaloom_new` made and the other calls kept.
+// The exported calls. They have one premise: the state is one that `hyphaloom_new` made and the other calls kept.
 ghost use mathlib.Core.Path.{_≡_};
 ghost use mathlib.Core.Bool.{true};
 ghost use lib.ListN.{length};
@@ -32,7 +32,7 @@ use rows::send_of;
 use rows::tag_from;
 use state::Sizes;
 
-// A new stack in the front of a buffer of at least 2,248 bytes; what lies past it stays.
+// Makes a new stack in the front of a buffer of at least 2,248 bytes; what lies past it stays.
 #[no_mangle]
 pub extern "C" fn hyphaloom_new(state: &mut [u8], own: u8, mtu: usize, clock: u64) -> u8
     ensures said { λ r. ⌜ r ≡ answerNo (doneAs (newSays board (length (now (state .entry))) mtu)) ⌝ }
@@ -41,7 +41,7 @@ pub extern "C" fn hyphaloom_new(state: &mut [u8], own: u8, mtu: usize, clock: u6
     done_no(estack::new(state, Sizes::BOARD, Eid(own), mtu, clock))
 }
 
-// Whether the bytes are a state, such as `hyphaloom_new` makes and the other calls keep. It asks nothing: any bytes may be looked at.
+// Whether the bytes are a state, such as `hyphaloom_new` makes and the other calls keep. It has no premise: any bytes may be looked at.
 #[no_mangle]
 pub extern "C" fn hyphaloom_is_kept(state: &[u8]) -> bool
     ensures sound { λ r. ⌜ (r ≡ true → Kept board (now (state .entry))) ⌝ }
@@ -75,7 +75,7 @@ pub extern "C" fn hyphaloom_is_local_dest(state: &[u8], packet: &[u8]) -> bool
     estack::is_local_dest(state, Sizes::BOARD, packet)
 }
 
-// Starts a send; the fragmenter steps through its packets.
+// Starts a send, and leaves the fragmenter that steps through its packets.
 #[no_mangle]
 pub extern "C" fn hyphaloom_start_send(
     state: &mut [u8],
@@ -95,7 +95,7 @@ pub extern "C" fn hyphaloom_start_send(
     1
 }
 
-// One step: a packet of `len` bytes at the front of the buffer, or with `len` 0 all is sent.
+// One step: it leaves a packet of `len` bytes at the front of the buffer; `len` 0 says that all is sent.
 #[no_mangle]
 pub extern "C" fn hyphaloom_fragment(
     fragmenter: &mut [u64; 13],
@@ -117,7 +117,7 @@ pub extern "C" fn hyphaloom_fragment(
     said
 }
 
-// Takes the clock: how many milliseconds may pass until the next update, and whether something expired.
+// Takes the clock, and tells how many milliseconds may pass until the next update, and whether something expired.
 #[no_mangle]
 pub extern "C" fn hyphaloom_update(state: &mut [u8], clock: u64, next: &mut [u64; 2]) -> u8
     requires { ⌜ Kept board (now state) ⌝ }
@@ -129,7 +129,7 @@ pub extern "C" fn hyphaloom_update(state: &mut [u8], clock: u64, next: &mut [u64
     put_next(next, updated)
 }
 
-// Receives a packet: the handle of the message that it ends, or issue 0 where more is to come.
+// Receives a packet, and leaves the handle of the message that it ends, or issue 0 where more is to come.
 #[no_mangle]
 pub extern "C" fn hyphaloom_receive(
     state: &mut [u8],
@@ -253,7 +253,7 @@ pub extern "C" fn hyphaloom_cancel_flow(state: &mut [u8], source: u8, tag: u8) -
     done_no(estack::cancel_flow(state, Sizes::BOARD, Eid(source), TagValue(tag)))
 }
 
-// Free tags left for a peer.
+// How many tags are free for a peer.
 #[no_mangle]
 pub extern "C" fn hyphaloom_free_tags(state: &[u8], peer: u8) -> u8
     requires { ⌜ Kept board (now state) ⌝ }

@@ -1,6 +1,7 @@
-// The exported calls: every public call of the stack, the fragment step and a look at the state's bytes, for C and Rust, over numbers, byte slices and records of 64-bit numbers.
-// Each answers 0 or the refusal's number; what else it tells goes into a record that is lent, and that a refusal leaves as it was.
-// Leans on `estack`, `fragment` and `kept` for all that is done, on `rows` for the records, on `rows` for what is told. Definitions: specs/Board.antt.
+// The exported calls, for C and Rust: every public call of the stack, the fragment step, and `is_kept`. They take numbers, byte slices and rows of 64-bit
+// words.
+// A call that can refuse answers 0 or the refusal's number. What else it tells goes into a row that it is lent; a refusal leaves the row as it was.
+// Leans on `estack`, `fragment` and `kept` for all that is done, on `rows` for the rows and what is told. Definitions: specs/Board.antt.
 mod calls;
 
 pub use calls::hyphaloom_cancel_flow;

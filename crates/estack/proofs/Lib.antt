@@ -1,2 +1,2 @@
--- What is shown of the definitions.
+-- What is shown about the definitions.
 pub mod Pinned

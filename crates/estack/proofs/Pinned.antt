@@ -1,5 +1,6 @@
--- Every answer is pinned down: two outcomes that meet a call's contract are equal, to the byte. For a call that answers and stores, `pinned` of Steps.antt is
--- the one argument; here is `new`, which asks nothing of the bytes that it finds; receive, with its pool, has its own in `receiving`. A call that only reads is an equation.
+-- Every answer is pinned down: two outcomes that meet a call's contract are equal, to the byte. For a call that answers and stores, `pinned` of
+-- crates/state/proofs/Steps.antt shows it. Here it is shown for `new`, which asks nothing of the bytes that it finds; `receiving` shows it for receive, with
+-- its pool. The contract of a call that only reads is an equation.
 use Prim.Native.Nat.{ℕ}
 use mathlib.Core.Path.{_≡_, sym, _∙_}
 use mathlib.Core.List.{List}

@@ -1,6 +1,6 @@
--- docs/RULES.md 59 to 62, 74 and 75: `new`, `set_eid`, `eid`, `is_local_dest`, `cancel_flow`, free tags.
--- Each gives the answer and the next stack for every input; `NewMakes` gives the bytes of a new one.
--- Leans on `mctp` for EIDs, on `slot_walks` for a cancel's walk.
+-- docs/RULES.md 59 to 62, 74 and 75: `new`, `set_eid`, `eid`, `is_local_dest`, `cancel_flow`, `free_tags`.
+-- Each definition gives the answer and the next stack for every input; `NewMakes` gives the bytes of a new stack.
+-- Leans on `mctp` for EIDs, on `state` for the stack, on `slot_walks` for a cancel's walk.
 use Prim.Native.Nat.{ℕ}
 use mathlib.Core.Path.{_≡_}
 use mathlib.Core.Bool.{Bool, true, false}
@@ -61,7 +61,7 @@ abbrev pub NewMakes : Done → Sizes → Eid → ℕ → ℕ → List ℕ → Li
 NewMakes Well z own mtu clock b b′ = Becomes z b b′ (freshStack z own mtu clock)
 NewMakes (Refused err) z own mtu clock b b′ = b′ ≡ b
 
--- 8 to 254, else InvalidInput
+-- 8 to 254 becomes the own EID; any other is InvalidInput
 abbrev pub eidSet : EidRead → Stack → Handled
 eidSet (Normal own) st = record { stack = withHead (withOwn own (st .head)) st; said = Well }
 eidSet (NotNormal err) st = record { stack = st; said = Refused err }
@@ -69,18 +69,18 @@ eidSet (NotNormal err) st = record { stack = st; said = Refused err }
 abbrev pub setEidOf : ℕ → Stack → Handled
 setEidOf eid st = eidSet (normalEid eid) st
 
--- a good header to own or 0
+-- whether a packet has a good header and goes to the own EID or 0
 abbrev pub localOf : List ℕ → Stack → Bool
 localOf p st = localPacket (st .head .«own_eid») p
 
--- walks slots upward, frees replies of that peer and tag; at one with a handle out stops with BadArgument, earlier ones stay freed, flow stays.
--- Otherwise the flow goes, if there; absent is no error. A tag above 7 is InvalidInput
+-- a cancel walks the slots upward and frees the replies of that peer and tag. At one with a handle out it stops with BadArgument: those before it stay freed,
+-- and the flow stays. Otherwise the flow goes; it is no error where there is none. A tag above 7 is InvalidInput
 unfoldable pub cancelOf : Eid → TagValue → Stack → Handled
 cancelOf peer tag st =
     pick (ltb 7 (tag .0)) (record { stack = st; said = Refused InvalidInput })
     (pick (blocked peer tag (st .slots)) (record { stack = withSlots (swept peer tag (st .slots)) st; said = Refused BadArgument })
     (record { stack = withFlows (removed peer tag (st .flows)) (withSlots (swept peer tag (st .slots)) st); said = Well }))
 
--- free tags left for a peer: the zeros among its eight used-tag bits
+-- how many tags are free for a peer: the zeros among its eight used-tag bits
 abbrev pub freeTagsOf : Eid → Stack → ℕ
 freeTagsOf peer st = freeCount (usedTags peer (st .flows))

@@ -1,5 +1,5 @@
 // The stack: every public call of docs/RULES.md, over a state kept in lent bytes, after the Rust's `Stack` in src/lib.rs.
-// Here are `new`, EIDs, cancel and free tags; the other calls are handed on. Definitions: specs/Basics.antt.
+// Here are `new`, the EIDs, `cancel_flow` and `free_tags`; the other calls are passed on from their crates. Definitions: specs/Basics.antt.
 // Leans on `state` for the layout, on `slot_walks` and `flow_walks` for walks, on `sending`, `receiving`, `updating` and `handles` for their calls.
 ghost use mathlib.Core.Path.{_≡_};
 ghost use Prim.Native.Nat.{_+_, _≤_, _<_};
@@ -34,7 +34,7 @@ use state::Sizes;
 pub use updating::Updated;
 pub use updating::update;
 
-// A new stack in the front of a buffer; what lies past it stays.
+// Makes a new stack in the front of a buffer; what lies past it stays.
 pub fn new(state: &mut [u8], sizes: Sizes, own: Eid, mtu: usize, clock: u64) -> Done
     ensures said { λ r. ⌜ r ≡ newSays sizes (length (now (state .entry))) mtu ⌝ }
     ensures stack { λ r. ⌜ NewMakes r sizes own mtu clock (now (state .entry)) (now (state .exit)) ⌝ }
@@ -70,7 +70,7 @@ pub fn new(state: &mut [u8], sizes: Sizes, own: Eid, mtu: usize, clock: u64) -> 
     Done::Well
 }
 
-// The own EID becomes another: 8 to 254.
+// Sets the own EID, 8 to 254.
 pub fn set_eid(state: &mut [u8], sizes: Sizes, eid: u8) -> Done
     requires { ⌜ Kept sizes (now state) ⌝ }
     ensures { λ r. ⌜ (r ≡ setEidOf eid (stackOf sizes (now (state .entry))) .said) × Becomes sizes (now (state .entry)) (now (state .exit)) (setEidOf eid (stackOf sizes (now (state .entry))) .stack) ⌝ }
@@ -100,7 +100,7 @@ pub fn eid(state: &[u8], sizes: Sizes) -> Eid
     state::own_eid(state, sizes)
 }
 
-// A good header to own or 0.
+// Whether a packet has a good header and goes to the own EID or 0.
 pub fn is_local_dest(state: &[u8], sizes: Sizes, packet: &[u8]) -> bool
     requires { ⌜ Kept sizes (now state) ⌝ }
     ensures { λ r. ⌜ r ≡ localOf (now (packet .entry)) (stackOf sizes (now (state .entry))) ⌝ }
@@ -124,7 +124,7 @@ pub fn cancel_flow(state: &mut [u8], sizes: Sizes, source: Eid, tag: TagValue) -
     Done::Well
 }
 
-// Free tags left for a peer.
+// How many tags are free for a peer.
 pub fn free_tags(state: &[u8], sizes: Sizes, peer: Eid) -> u8
     requires { ⌜ Kept sizes (now state) ⌝ }
     ensures { λ r. ⌜ r ≡ freeTagsOf peer (stackOf sizes (now (state .entry))) ⌝ }

@@ -1,6 +1,6 @@
 // The fragmenter: one message cut into packets, one step a packet, after the Rust's src/fragment.rs.
-// Leans on `mctp` for the header and on `copying` for the copying leaf. Definitions: specs/Step.antt; what DSP0236 asks of the
-// packets stands apart from the step, in specs/Cutting.antt.
+// Definitions: specs/Step.antt; what DSP0236 asks of the packets stands apart from the step, in specs/Cutting.antt.
+// Leans on `mctp` for the header, on `copying` for the copy and on `octets` for numbers.
 ghost use mathlib.Core.Path.{_≡_};
 ghost use mathlib.Core.List.{_++_, _∷_};
 ghost use Prim.Native.Nat.{_+_, _-_, _≤_, _<_, _^_, min};

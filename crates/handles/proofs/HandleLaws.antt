@@ -1,4 +1,4 @@
--- A good handle is one of a slot, and the calls that take a handle store that slot or nothing.
+-- A good handle belongs to a slot, and the calls that take a handle store that slot or nothing.
 use Prim.Native.Nat.{ℕ, _^_, _≤_, _<_}
 use native.Mathlib.Omega.{arith}
 use mathlib.Core.Path.{_≡_, refl}
@@ -54,7 +54,7 @@ module _ (z : Sizes) (f : Reassembler → Reassembler) (h : ReceiveHandle) (b : 
   unfolding handled pick
   handled-bad e k = rw e (refl, stays z b k)
 
-  -- the slot that is stored may be told beforehand
+  -- the slot that is stored may be computed beforehand
   pub handled-at : {x : Reassembler} {r : Done} {b′ : List ℕ} → x ≡ f (slotAt (h .index) (stackOf z b)) → (r ≡ handled (λ _. x) h (stackOf z b) .said) × Becomes z b b′ (handled (λ _. x) h (stackOf z b) .stack) → Handled r b′
   unfolding handled
   handled-at e p = rw e at p
@@ -84,7 +84,7 @@ restated-ok B s ok state n = changed-ok B s ok state (s .cookie) n (ok .value)
 pub recookied-ok : (B : ℕ) (s : Reassembler) → SlotOk B s → (cookie : Cookie) → cookieValue cookie < 2 ^ 64 → SlotOk B (withSlotCookie cookie s)
 recookied-ok B s ok cookie v = changed-ok B s ok (s .state) cookie (ok .issue) v
 
--- a handle that goes out: the slot, then the count
+-- where a handle goes out, the slot is stored and then the count
 module _ (z : Sizes) (b : List ℕ) (i : ℕ) where
   abbrev Taken : Deferred → List ℕ → Type 0
   Taken r b′ = (r ≡ takeOf i (stackOf z b) .said) × Becomes z b b′ (takeOf i (stackOf z b) .stack)

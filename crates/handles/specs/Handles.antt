@@ -1,6 +1,6 @@
--- docs/RULES.md 72, 73 and 76 to 82: fetch, finish, return, set cookie, and the deferred lookups.
+-- docs/RULES.md 72, 73, 76 and 78 to 82: fetch, finish, return, set cookie, and the deferred lookups.
 -- A handle is an index and an issue number.
--- Leans on `slot` for a slot's part, on `receiving` for the count of handles.
+-- Leans on `slot` for a slot's part and the count of handles, on `state` for the stack.
 use Prim.Native.Nat.{ℕ, _+_, _*_}
 use mathlib.Core.Bool.{Bool, true, false}
 use mathlib.Core.List.{List, [], _∷_}
@@ -62,7 +62,7 @@ deferredAs Nothing = gives []
 
 -- ---- handles
 
--- index past the slots, slot not done, handle not out or another number: the handle is no good
+-- whether a handle is good: its index is that of a slot, and that slot's handle is out under its number
 unfoldable pub isGood : ReceiveHandle → Stack → Bool
 isGood h st = pick (ltb (h .index) (length (st .slots))) (handleIs (h .issue) (slotAt (h .index) st)) false
 
@@ -70,7 +70,7 @@ pub record Handled : Type 0 where
   pub stack : Stack
   pub said : Done
 
--- what a good handle's slot becomes; otherwise BadArgument
+-- the slot of a good handle becomes what f makes of it; any other handle is BadArgument
 unfoldable pub handled : (Reassembler → Reassembler) → ReceiveHandle → Stack → Handled
 handled f h st =
     pick (isGood h st) (record { stack = withSlot (h .index) (f (slotAt (h .index) st)) st; said = Well })
@@ -88,7 +88,7 @@ returnOf h st = handled (withState Waiting) h st
 abbrev pub setCookieOf : ReceiveHandle → Cookie → Stack → Handled
 setCookieOf h cookie st = handled (withSlotCookie cookie) h st
 
--- the message in slot i, whose body lies at byte B i of the pool
+-- the message in slot i, whose body lies in the pool from byte B i on
 abbrev pub messageIn : ℕ → ℕ → Reassembler → Message
 messageIn B i s = record { key = s .key; typ = s .typ; ic = s .ic; cookie = s .cookie; at = B * i; len = s .len }
 
@@ -116,7 +116,7 @@ takeOf i st =
     })
     (record { stack = st; said = Nothing })
 
--- the earliest matching done slot, its handle now out, or none
+-- the earliest done slot that matches, with its handle now out, or none
 abbrev pub deferredOf : (Reassembler → Bool) → Stack → Lookup
 deferredOf f st = takeOf (earliest f (st .slots)) st
 

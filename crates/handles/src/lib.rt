@@ -1,6 +1,6 @@
 // Handling: fetch, finish, return and set cookie under a handle, and the deferred lookups that give one out; after the Rust's `Stack` in src/lib.rs.
 // Definitions: specs/Handles.antt.
-// Leans on `slot_walks` for the search of the earliest message, on `receiving` for the count of handles.
+// Leans on `slot_walks` for the search of the earliest message, on `slot` for the count of handles, on `state` for the bytes.
 ghost use mathlib.Core.Path.{_≡_};
 ghost use Prim.Native.Nat.{_+_, _≤_, _<_};
 ghost use lib.ListN.{length};
@@ -18,7 +18,7 @@ use slot::Reassembler;
 use slot::ReceiveHandle;
 use state::Sizes;
 
-// A call that has nothing to tell but a refusal.
+// The answer of a call that has nothing to tell but a refusal.
 pub enum Done {
     Well,
     Refused(Error),
@@ -44,7 +44,7 @@ pub enum Fetched {
     Refused(Error),
 }
 
-// The handle is out: its slot is done, and its number is this one.
+// Whether a handle is good: its slot has a handle out, under this number.
 fn is_good(state: &[u8], sizes: Sizes, handle: ReceiveHandle) -> bool
     requires { ⌜ Kept sizes (now state) ⌝ }
     ensures { λ r. ⌜ r ≡ isGood handle (stackOf sizes (now (state .entry))) ⌝ }
@@ -85,7 +85,7 @@ pub fn fetch_message(state: &[u8], sizes: Sizes, pool: &[u8], handle: ReceiveHan
     Fetched::Refused(Error::BadArgument)
 }
 
-// A good handle's slot becomes `s`; otherwise BadArgument.
+// The slot of a good handle becomes `s`; any other handle is BadArgument.
 fn put_under(state: &mut [u8], sizes: Sizes, handle: ReceiveHandle, s: Reassembler) -> Done
     requires { ⌜ Kept sizes (now state) × SlotOk (sizes .body) s ⌝ }
     ensures { λ r. ⌜ (r ≡ handled (λ _. s) handle (stackOf sizes (now (state .entry))) .said) × Becomes sizes (now (state .entry)) (now (state .exit)) (handled (λ _. s) handle (stackOf sizes (now (state .entry))) .stack) ⌝ }
@@ -99,7 +99,7 @@ fn put_under(state: &mut [u8], sizes: Sizes, handle: ReceiveHandle, s: Reassembl
     Done::Refused(Error::BadArgument)
 }
 
-// The message is finished: its slot is empty.
+// Finishes the message: its slot becomes empty.
 pub fn finished_receive(state: &mut [u8], sizes: Sizes, handle: ReceiveHandle) -> Done
     requires { ⌜ Kept sizes (now state) ⌝ }
     ensures { λ r. ⌜ (r ≡ finishOf handle (stackOf sizes (now (state .entry))) .said) × Becomes sizes (now (state .entry)) (now (state .exit)) (finishOf handle (stackOf sizes (now (state .entry))) .stack) ⌝ }
@@ -107,7 +107,7 @@ pub fn finished_receive(state: &mut [u8], sizes: Sizes, handle: ReceiveHandle) -
     put_under(state, sizes, handle, slot::blank())
 }
 
-// The handle comes back, and the message is kept.
+// Takes the handle back and keeps the message.
 pub fn return_handle(state: &mut [u8], sizes: Sizes, handle: ReceiveHandle) -> Done
     requires { ⌜ Kept sizes (now state) ⌝ }
     ensures { λ r. ⌜ (r ≡ returnOf handle (stackOf sizes (now (state .entry))) .said) × Becomes sizes (now (state .entry)) (now (state .exit)) (returnOf handle (stackOf sizes (now (state .entry))) .stack) ⌝ }
@@ -117,7 +117,7 @@ pub fn return_handle(state: &mut [u8], sizes: Sizes, handle: ReceiveHandle) -> D
     put_under(state, sizes, handle, s.return_handle())
 }
 
-// That slot has another cookie.
+// Gives the slot of the handle another cookie, or none.
 pub fn set_cookie(state: &mut [u8], sizes: Sizes, handle: ReceiveHandle, cookie: Cookie) -> Done
     requires { ⌜ Kept sizes (now state) ⌝ }
     ensures { λ r. ⌜ (r ≡ setCookieOf handle cookie (stackOf sizes (now (state .entry))) .said) × Becomes sizes (now (state .entry)) (now (state .exit)) (setCookieOf handle cookie (stackOf sizes (now (state .entry))) .stack) ⌝ }
@@ -127,7 +127,7 @@ pub fn set_cookie(state: &mut [u8], sizes: Sizes, handle: ReceiveHandle, cookie:
     put_under(state, sizes, handle, s.set_cookie(cookie))
 }
 
-// The handle of slot i goes out, where there is a slot i.
+// Gives out the handle of slot i, where there is a slot i.
 fn take(state: &mut [u8], sizes: Sizes, i: usize) -> Deferred
     requires { ⌜ Kept sizes (now state) ⌝ }
     ensures { λ r. ⌜ (r ≡ takeOf i (stackOf sizes (now (state .entry))) .said) × Becomes sizes (now (state .entry)) (now (state .exit)) (takeOf i (stackOf sizes (now (state .entry))) .stack) ⌝ }

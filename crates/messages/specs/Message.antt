@@ -1,6 +1,6 @@
--- A message that is handed out: what it says of the facts that fetch gives, and which bytes of the pool are its body.
--- Leans on `octets` for parts of a buffer, on `mctp` for tags and on `handles` for the facts. Where a body would go past the pool, it is
--- what the pool holds of it: none from a byte past the end.
+-- A message that is handed out: which fields it takes from the facts that fetch gives, and which bytes of the pool are its body.
+-- Where a body would reach past the end of the pool, it is as much of it as the pool holds.
+-- Leans on `octets` for parts of a buffer, on `mctp` for tags and on `handles` for the facts.
 use Prim.Native.Nat.{ℕ}
 use mathlib.Core.List.{List}
 use lib.ListN.{take}

@@ -1,6 +1,6 @@
 // A handed-out message: a record that borrows its body from the pool, after the Rust's MctpMessage.
-// `lend_message` makes it; `lend_body` and `copy_body` stand beside it for callers with plain parameters. Definitions: specs/Message.antt.
-// Leans on `handles` for the facts of a message, by value, and on `copying` for the copying leaf.
+// `lend_message` makes it; `lend_body` and `copy_body` are for callers that need the body alone. Definitions: specs/Message.antt.
+// Leans on `handles` for the facts of a message, by value, and on `copying` for the copy.
 ghost use mathlib.Core.Path.{_≡_};
 ghost use lib.ListN.{length};
 ghost use Rattle.octets.specs.Bytes.{over, part};
@@ -37,7 +37,7 @@ fn stretch(bytes: &[u8], at: usize, len: usize) -> &[u8]
     &bytes[at..end]
 }
 
-// The message of these facts, its body lent from the pool.
+// The message of these facts, with its body lent from the pool.
 pub fn lend_message<'a>(pool: &'a [u8], facts: Message) -> MctpMessage<'a>
     ensures fields { λ m. ⌜ m ≡ messageOf facts (m .payload) ⌝ }
     ensures body { λ m. ⌜ now (m .payload) ≡ bodyOf facts (now (pool .entry)) ⌝ }
@@ -55,7 +55,7 @@ pub fn lend_message<'a>(pool: &'a [u8], facts: Message) -> MctpMessage<'a>
     }
 }
 
-// The body alone, over a message: with plain parameters, for every other caller.
+// The body alone, which it takes from the message, for callers that need no more.
 pub fn lend_body<'a>(pool: &'a [u8], facts: Message) -> &'a [u8]
     ensures { λ r. ⌜ now r ≡ bodyOf facts (now (pool .entry)) ⌝ }
 {
@@ -63,7 +63,7 @@ pub fn lend_body<'a>(pool: &'a [u8], facts: Message) -> &'a [u8]
     m.payload
 }
 
-// As much of the body as the buffer holds, over its front; how many bytes that is.
+// Copies as much of the body as the buffer holds over its front, and tells how many bytes that is.
 pub fn copy_body(pool: &[u8], facts: Message, out: &mut [u8]) -> usize
     ensures count { λ r. ⌜ r ≡ length (frontOf facts (now (pool .entry)) (length (now (out .entry)))) ⌝ }
     ensures bytes { λ _. ⌜ now (out .exit) ≡ over 0 (frontOf facts (now (pool .entry)) (length (now (out .entry)))) (now (out .entry)) ⌝ }

@@ -1,4 +1,4 @@
--- A fragmenter that a caller keeps as a row of numbers is the same one when it is read back, and after a packet the next one.
+-- A fragmenter that a caller keeps as a row of numbers is the same when it is read back, and after a packet it is the next one.
 use Prim.Native.Nat.{ℕ, _+_, _%_, _<_}
 use native.Mathlib.Omega.{arith}
 use native.Mathlib.Nat.{mod-eq-of-lt}

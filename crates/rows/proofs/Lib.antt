@@ -1,2 +1,2 @@
--- The laws of the records.
+-- The laws of the rows.
 pub mod Laws

@@ -1,6 +1,6 @@
 // What a call answers in numbers, and what it leaves in the row that it is lent: a refusal leaves the row as it was.
 // One function for each kind of answer. Definitions: specs/Answers.antt.
-// Leans on `rows` for rows, on the answers of `fragment`, `updating`, `receiving` and `handles`.
+// Leans on lib.rt for rows, on `fragment`, `updating`, `receiving` and `handles` for their answers.
 ghost use mathlib.Core.Path.{_≡_};
 ghost use Rattle.mctp.specs.Answer.{answerNo, rowAfter};
 ghost use Rattle.fragment.specs.Answers.{startedAs, outputAs};
@@ -84,7 +84,7 @@ pub fn put_next(next: &mut [u64; 2], updated: Updated) -> u8
     }
 }
 
-// A packet that ends a message leaves its handle, any other issue 0.
+// A packet that ends a message leaves the message's handle; any other leaves issue 0.
 pub fn put_received(handle: &mut [u64; 2], received: Received) -> u8
     ensures { λ r. ⌜ r ≡ answerNo (receivedAs received) ⌝ }
     ensures { λ _. ⌜ now (handle .exit) ≡ rowAfter 2 (receivedAs received) (now (handle .entry)) ⌝ }
@@ -102,7 +102,7 @@ pub fn put_received(handle: &mut [u64; 2], received: Received) -> u8
     }
 }
 
-// The handle found, or issue 0.
+// A lookup leaves the handle that it found, or issue 0.
 pub fn put_deferred(row: &mut [u64; 2], d: Deferred)
     ensures { λ _. ⌜ now (row .exit) ≡ rowAfter 2 (deferredAs d) (now (row .entry)) ⌝ }
 {

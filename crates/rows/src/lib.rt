@@ -1,6 +1,6 @@
 // Records as rows of 64-bit numbers: a send, a fragmenter, a message, a handle; and what a call answers in numbers (answers.rt).
-// A yes or no is 1 or 0, and any number but 0 is yes. Definitions: specs/Words.antt, specs/Answers.antt.
-// Leans on `mctp`, `fragment`, `sending`, `receiving` and `handles` for the records.
+// Yes is written 1 and no 0; any number but 0 is read as yes. Definitions: specs/Words.antt, specs/Answers.antt.
+// Leans on `mctp`, `fragment`, `sending`, `slot` and `handles` for the records.
 mod answers;
 
 pub use answers::done_no;
@@ -76,7 +76,8 @@ pub fn cookie_from(has: bool, value: u64) -> Cookie
 
 // ---- a send
 
-// Every number that stands for a byte is one, and the kind of tag is there. The tag of a fresh one is not looked at.
+// Whether the row is a good send: destination, type and a given tag are bytes, and the kind of tag is one of the three. For a fresh tag word 3 is not looked
+// at.
 pub fn is_good_send(w: &[u64; 10]) -> bool
     ensures { λ r. ⌜ r ≡ goodSend (now (w .entry)) ⌝ }
 {
@@ -161,7 +162,7 @@ pub fn words_of(f: Fragmenter) -> [u64; 13]
     ]
 }
 
-// What a packet moves: sequence, first, done and the bytes sent.
+// Stores what a packet moves: sequence, first, done and the bytes sent.
 pub fn advance(w: &mut [u64; 13], next: Fragmenter)
     ensures { λ _. ⌜ now (w .exit) ≡ advancedRow next (now (w .entry)) ⌝ }
 {

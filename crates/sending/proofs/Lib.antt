@@ -1,2 +1,2 @@
--- A send by its parts.
+-- The laws of a send, part by part.
 pub mod SendLaws

@@ -1,4 +1,4 @@
--- A send by its parts: what the tests leave, the tag, and the sequence.
+-- The laws of a send, part by part: what is left after the tests, the tag, and the sequence.
 use Prim.Native.Nat.{ℕ, _≤_}
 use mathlib.Core.Path.{_≡_, refl}
 use mathlib.Core.Bool.{false}
@@ -16,13 +16,13 @@ use Rattle.sending.specs.declared.UnderTag.the-variants.{Under, Refused 
 use Rattle.sending.specs.declared.Send.{Send}
 use Rattle.sending.specs.Sends.{Tagged, badTag, sendUnder, sendAs, sendTagged, tagFor, startSendOf}
 
--- type and tag are good: the tag decides
+-- where type and tag are good, the send goes on with the tag
 start-as : (q : Send) (st : Stack) → q .typ .0 ≤ 127 → badTag (q .tag) ≡ false
     → startSendOf q st ≡ sendTagged q (tagFor (q .dest) (q .tag) (q .expires) (q .cookie) st)
 unfolding startSendOf pick
 start-as q st h b = rw (le-ltb 127 (q .typ .0) h, b)
 
--- what comes of the tag that there is, or is not
+-- what comes of a send that got its tag, and of one that did not
 module _ (z : Sizes) (b : List ℕ) (q : Send) (h : q .typ .0 ≤ 127) (good : badTag (q .tag) ≡ false) where
   abbrev tagged : Tagged
   tagged = tagFor (q .dest) (q .tag) (q .expires) (q .cookie) (stackOf z b)

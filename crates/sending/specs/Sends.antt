@@ -1,5 +1,5 @@
--- docs/RULES.md 65 to 68, `start_send`: type above 127 or tag above 7 is InvalidInput with nothing changed; then, for an owned tag, the flow; then the sequence goes up
--- modulo 4; then the smaller MTU, outside 5 to 255: BadArgument, with flow and sequence as they now are.
+-- docs/RULES.md 65 to 68, `start_send`. A type above 127 or a tag above 7 is InvalidInput, and nothing changes. Then an owned tag gets its flow, and the
+-- sequence goes up modulo 4. Then the smaller MTU is looked at: outside 5 to 255 it is BadArgument, with flow and sequence as they now are.
 -- Leans on `flows` for the table's part, on `fragment` for the fragmenter that comes out.
 use Prim.Native.Nat.{ℕ, min}
 use mathlib.Core.Bool.{Bool, false}
@@ -36,13 +36,13 @@ pub record Sent : Type 0 where
 abbrev pub unsent : Stack → Started → Sent
 unsent st said = record { stack = st; said = said }
 
--- a tag above 7
+-- whether a given tag is above 7
 abbrev pub badTag : SendTag → Bool
 badTag Fresh = false
 badTag (Ours tag) = ltb 7 (tag .0)
 badTag (Theirs tag) = ltb 7 (tag .0)
 
--- the smaller of the stack's MTU and the one given, if one is
+-- the smaller of the stack's MTU and the given one, or the stack's own where none is given
 abbrev pub mtuOf : SendMtu → ℕ → ℕ
 mtuOf Own mtu = mtu
 mtuOf (AtMost n) mtu = min mtu n
@@ -63,20 +63,20 @@ abbrev pub underGranted : Granted → UnderTag
 underGranted (Grant tag) = Under (Owned tag)
 underGranted (Ungranted err) = Untagged err
 
--- for an owned tag, the flow
+-- an owned tag gets its flow
 unfoldable pub ownedTag : Eid → Wish → Bool → Cookie → Stack → Tagged
 ownedTag dest wish expires cookie st = record {
   stack = withTable (setFlow dest wish expires cookie (tableOf st) .table) st;
   said = underGranted (setFlow dest wish expires cookie (tableOf st) .granted);
 }
 
--- the tag that a send asks for; the other side's needs no flow
+-- the tag that a send asks for; the other side's tag needs no flow
 unfoldable pub tagFor : Eid → SendTag → Bool → Cookie → Stack → Tagged
 tagFor dest Fresh expires cookie st = ownedTag dest AnyTag expires cookie st
 tagFor dest (Ours tag) expires cookie st = ownedTag dest (Fixed tag) expires cookie st
 tagFor dest (Theirs tag) expires cookie st = record { stack = st; said = Under (Unowned tag) }
 
--- under the tag that there is; a refusal of the flow ends the send
+-- the send under the tag that it got; where it got none, the refusal of the flow ends it
 unfoldable pub sendAs : Send → UnderTag → Stack → Sent
 sendAs q (Under tag) st = sendUnder q tag st
 sendAs q (Untagged err) st = unsent st (Refused err)

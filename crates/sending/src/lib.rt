@@ -1,4 +1,5 @@
-// Sending: `start_send`, docs/RULES.md 63 to 68: type and tag, the flow, the sequence, the MTU, in that order; after the Rust's `Stack` in src/lib.rs.
+// Sending: `start_send` of docs/RULES.md 65 to 68, after the Rust's `Stack` in src/lib.rs. It looks at type and tag, the flow, the sequence and the MTU, in
+// that order.
 // Definitions: specs/Sends.antt.
 // Leans on `flow_walks` for the flows in the state's bytes, on `fragment` for the fragmenter that comes out.
 ghost use mathlib.Core.Path.{_≡_};
@@ -25,7 +26,7 @@ pub enum SendTag {
     Unowned(TagValue),
 }
 
-// The most that a packet of this message may be: as the stack has it, or also at most this.
+// How long a packet of this message may be: as long as the stack's MTU says, or at most this long too.
 pub enum SendMtu {
     Own,
     AtMost(usize),
@@ -66,7 +67,7 @@ fn is_bad_tag(tag: SendTag) -> bool
     }
 }
 
-// The sequence goes up, and then the MTU is looked at.
+// The sequence goes up, and then the fragmenter is made, or refused for its MTU.
 fn send_under(state: &mut [u8], sizes: Sizes, send: Send, tag: Tag) -> Started
     requires { ⌜ Kept sizes (now state) ⌝ }
     ensures { λ r. ⌜ (r ≡ sendUnder send tag (stackOf sizes (now (state .entry))) .said) × Becomes sizes (now (state .entry)) (now (state .exit)) (sendUnder send tag (stackOf sizes (now (state .entry))) .stack) ⌝ }

@@ -1,3 +1,3 @@
--- An update by its parts, and what its first number is.
+-- The laws of an update, part by part, and what its first number is.
 pub mod Times
 pub mod UpdateLaws

@@ -1,4 +1,5 @@
--- The first number of a good update is the gap to the planned check, or the least of 100 and every remaining time; either way it is at most 100.
+-- The first number of an update that is not refused is the gap to the planned check, or the least of 100 and every remaining time; either way it is at most
+-- 100.
 use Prim.Native.Nat.{ℕ, _+_, _-_, _≤_, min}
 use native.Mathlib.Omega.{arith}
 use mathlib.Core.Path.{_≡_, refl, ap, _∙_}
@@ -64,7 +65,7 @@ unfolding leastLeft
 least-append [] m n = refl
 least-append (t ∷ l) m n = least-append l m (soonerOf t n)
 
--- every remaining time of a stack: its slots', then its flows'
+-- every remaining time of a stack: first those of its slots, then those of its flows
 abbrev pub times : ℕ → Stack → List Timeout
 times now st = slotTimes now st ++ flowTimes now st
 
@@ -76,7 +77,7 @@ pub record Number (now : ℕ) (st : Stack) (n : ℕ) : Type 0 where
   pub soon : n ≤ interval
   pub is : (n ≡ st .head .«next_timeout» - now) ⊎ Least (times now st) interval n
 
--- of what an update says, if it does not refuse
+-- the same for what an update answers, if it does not refuse
 abbrev Numbered : ℕ → Stack → Updated → Type 0
 Numbered now st (Next n any) = Number now st n
 Numbered now st (Refused err) = Unit

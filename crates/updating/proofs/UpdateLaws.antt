@@ -1,4 +1,4 @@
--- An update by its parts: the clock is taken, slots and then flows expire, and the next check is planned.
+-- The laws of an update, part by part: the clock is taken, slots and then flows expire, and the next check is planned.
 use Prim.Native.Nat.{ℕ, _+_, _≤_}
 use native.Mathlib.Omega.{arith}
 use mathlib.Core.Path.{_≡_, refl, ap, subst, _∙_}
@@ -36,7 +36,7 @@ module _ (z : Sizes) (b x : List ℕ) (clock : ℕ) (h : Head) (s : EventStamp) 
       let q = subst (λ (t : EventStamp). Becomes z b x (withHead (withNow t h) (stackOf z b))) f p in
       subst (λ (k : Head). Becomes z b x (withHead (withNow (clocked clock (k .now)) k) (stackOf z b))) e q
 
--- slots from b to x, flows from x to y
+-- the check of the slots turns the bytes b into x, and that of the flows turns x into y
 abbrev start : Check
 start = record { least = interval; expired = false }
 

@@ -1,6 +1,6 @@
--- docs/RULES.md 69 to 71, `update`: clock below the last: InvalidInput; otherwise the clock is taken; below the planned check: the gap and false; else slots and flows
--- expire, and the least of 100 and every remaining time is told and planned. The planned check stops at 2^64 - 1.
--- Leans on `state` for what a check finds, on `flows` and `slot` for what expires.
+-- docs/RULES.md 69 to 71, `update`. A clock below the last is InvalidInput; otherwise the clock is taken. Below the planned check the answer is the gap to it
+-- and no. Otherwise slots and flows expire, and the next check is planned after the least of 100 and every remaining time. The planned check stops at 2^64 - 1.
+-- Leans on `state` for the remaining times, on `stamp` for what a check finds, on `flows` and `slot` for what expires.
 use Prim.Native.Nat.{ℕ, _+_, _-_, min}
 use mathlib.Core.Bool.{Bool, true, false}
 use mathlib.Core.List.{[], _∷_, map}
@@ -24,20 +24,20 @@ pub record Update : Type 0 where
   pub stack : Stack
   pub said : Updated
 
--- 0, the milliseconds until the next check and whether something expired
+-- 0, the milliseconds until the next check, and whether something expired
 abbrev pub updatedAs : Updated → Answer
 updatedAs (Next millis expired) = gives (millis ∷ flagWord expired ∷ [])
 updatedAs (Refused err) = refuses (errorNo err) []
 
--- the least of 100 and every remaining time; what has expired, what no time runs for and a handle that is out have none
+-- the least of the interval and every remaining time; what has expired has none, and neither has what no time runs for, such as a slot whose handle is out
 abbrev pub leastOf : ℕ → Stack → ℕ
 leastOf now st = leastLeft (flowTimes now st) (leastLeft (slotTimes now st) interval)
 
--- a slot or a flow expires
+-- whether a slot or a flow expires
 abbrev pub expires : ℕ → Stack → Bool
 expires now st = anyExpired (flowTimes now st) (anyExpired (slotTimes now st) false)
 
--- the planned check stops at 2^64 - 1
+-- when the next check is planned: it stops at 2^64 - 1
 abbrev pub plannedAt : ℕ → ℕ → ℕ
 plannedAt now least = min (now + least) 18446744073709551615
 

@@ -1,6 +1,6 @@
-// Updating: the clock is taken, and where the planned check is reached slots and flows expire; after the Rust's `Stack` in src/lib.rs.
+// Updating: the clock is taken, and where the planned check is reached, slots and flows expire; after the Rust's `Stack` in src/lib.rs.
 // Definitions: specs/Update.antt.
-// Leans on `slot_walks` and `flow_walks` for what expires, on `state` for the clock and the planned check.
+// Leans on `slot_walks` and `flow_walks` for what expires, on `state` for the clock and the planned check, on `stamp` for what a check finds.
 ghost use mathlib.Core.Path.{_≡_};
 ghost use Prim.Native.Nat.{_+_, _≤_, _<_, min};
 ghost use Rattle.config.specs.Config.{interval};
@@ -19,7 +19,7 @@ pub enum Updated {
     Refused(Error),
 }
 
-// The planned check stops at 2^64 - 1.
+// When the next check is planned; it stops at 2^64 - 1.
 fn plan_check(clock: u64, least: u32) -> u64
     ensures { λ r. ⌜ r ≡ plannedAt clock least ⌝ }
 {
@@ -55,7 +55,7 @@ fn check(state: &mut [u8], sizes: Sizes, clock: u64) -> Updated
     }
 }
 
-// Takes the clock, and where the planned check is reached lets slots and flows expire.
+// Takes the clock. Where the planned check is reached, slots and flows expire.
 pub fn update(state: &mut [u8], sizes: Sizes, clock: u64) -> Updated
     requires { ⌜ Kept sizes (now state) ⌝ }
     ensures { λ r. ⌜ (r ≡ updateOf clock (stackOf sizes (now (state .entry))) .said) × Becomes sizes (now (state .entry)) (now (state .exit)) (updateOf clock (stackOf sizes (now (state .entry))) .stack) ⌝ }

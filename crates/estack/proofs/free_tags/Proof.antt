@@ -1,4 +1,4 @@
--- `free_tags` counts what the used tags leave.
+-- `free_tags` counts the tags that the used ones leave free.
 use mathlib.Core.Path.{ap, _∙_}
 use borrow.Author.Needs.{needs}
 use Rattle.flows.specs.Tags.{freeCount}

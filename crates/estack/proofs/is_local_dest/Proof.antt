@@ -1,4 +1,4 @@
--- `is_local_dest` asks with the own EID.
+-- `is_local_dest` asks `reassemble` with the stack's own EID.
 use mathlib.Core.Path.{ap, _∙_}
 use denote.Ref.{now}
 use borrow.Author.Needs.{needs}

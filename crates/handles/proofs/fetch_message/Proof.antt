@@ -1,4 +1,4 @@
--- `fetch_message` asks the pool's length, then the handle, and reads its slot.
+-- `fetch_message` tests the pool's length and then the handle, and reads the handle's slot.
 use Prim.Native.Nat.{_*_}
 use native.Mathlib.Omega.{arith}
 use mathlib.Core.Path.{sym, ap, _∙_}

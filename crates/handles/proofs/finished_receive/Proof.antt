@@ -1,4 +1,4 @@
--- `finished_receive` keeps an empty slot.
+-- `finished_receive` stores an empty slot.
 use borrow.Author.Needs.{needs}
 use Rattle.slot_walks.proofs.SlotChecks.{blank-ok}
 use Rattle.handles.proofs.finished_receive.Statement.{statement}

@@ -1,4 +1,4 @@
--- `keep` stores the slot under a good handle (`handled-good`), and nothing under any other (`handled-bad`).
+-- `put_under` stores the slot under a good handle (`handled-good`), and nothing under any other (`handled-bad`).
 use mathlib.Core.Path.{sym, _∙_}
 use denote.Ref.{now}
 use borrow.Author.Needs.{needs}

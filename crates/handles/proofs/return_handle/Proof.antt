@@ -1,4 +1,4 @@
--- `return_handle` keeps the slot as done (`handled-at`).
+-- `return_handle` stores the slot as done (`handled-at`).
 use mathlib.Core.Path.{ap, _∙_}
 use denote.Ref.{now}
 use borrow.Author.Needs.{needs}

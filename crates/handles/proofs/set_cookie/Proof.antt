@@ -1,4 +1,4 @@
--- `set_cookie` keeps the slot with the cookie (`handled-at`).
+-- `set_cookie` stores the slot with the cookie (`handled-at`).
 use mathlib.Core.Path.{ap, _∙_}
 use denote.Ref.{now}
 use borrow.Author.Needs.{needs}

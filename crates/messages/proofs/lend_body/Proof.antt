@@ -1,5 +1,5 @@
--- `lend_body` meets its contract: a walk of its MIR, by hand. `lend_message` is called, of which the proof knows only its contract; of what
--- the message owns, what its payload owns is taken out, for the result. Assumes nothing.
+-- `lend_body` meets its contract, by a walk of its MIR. It calls `lend_message`, of which the proof knows only the contract; from what the message owns, the
+-- proof takes out what its payload owns, for the result. It assumes nothing.
 use mathlib.Core.Path.{_≡_, refl, ap}
 use Prim.Native.Nat.{ℕ}
 use mathlib.Core.List.{List, [], _∷_}

@@ -1,5 +1,5 @@
--- `lend_message` meets its contract: a walk of its MIR, by hand. `Tag::of` and `stretch` are called, of which the proof knows only their
--- contracts, and the slice that comes back is put into the struct beside the facts. Assumes nothing.
+-- `lend_message` meets its contract, by a walk of its MIR. It calls `Tag::of` and `stretch`, of which the proof knows only the contracts, and puts the slice
+-- that comes back into the struct beside the facts. It assumes nothing.
 use mathlib.Core.Path.{_≡_, refl, ap}
 use Prim.Native.Nat.{ℕ}
 use mathlib.Core.List.{List, [], _∷_}

@@ -1,4 +1,4 @@
--- `is_bad_tag` looks at a tag that is given.
+-- `is_bad_tag` looks at a given tag; a fresh one is never bad.
 use borrow.Author.Needs.{needs}
 use Rattle.sending.proofs.is_bad_tag.Statement.{statement}
 use Rattle.sending.proofs.is_bad_tag.Tie as tie

@@ -1,4 +1,4 @@
--- `mtu_for` gives the smaller where a second MTU is given.
+-- `mtu_for` gives the smaller of the two where the send gives an MTU.
 use borrow.Author.Needs.{needs}
 use Rattle.sending.proofs.mtu_for.Statement.{statement}
 use Rattle.sending.proofs.mtu_for.Tie as tie

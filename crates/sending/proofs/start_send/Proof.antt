@@ -1,4 +1,4 @@
--- `start_send` refuses type and tag before anything is stored, and then goes by the tag that there is (`carries`, `uncarried`).
+-- `start_send` refuses a bad type or tag before anything is stored, and then goes on with the tag that it got or the refusal (`carries`, `uncarried`).
 use mathlib.Core.Path.{refl, sym, _∙_}
 use denote.Ref.{now}
 use borrow.Author.Tests.{lt-ltb, le-ltb}

@@ -1,4 +1,4 @@
--- `tag_for` goes by the tag that the send asks for, and sets a flow for a tag of our own alone.
+-- `tag_for` does what the send asks for, and sets a flow only for a tag of our own.
 use mathlib.Core.Path.{refl}
 use denote.Ref.{now}
 use borrow.Author.Needs.{needs}

@@ -1,4 +1,4 @@
--- `planned` stops where the sum would pass 2^64 - 1, and is the sum before.
+-- `plan_check` gives the sum, and stops at 2^64 - 1 where the sum would pass it.
 use borrow.Author.Needs.{needs}
 use Rattle.updating.proofs.plan_check.Statement.{statement}
 use Rattle.updating.proofs.plan_check.Tie as tie

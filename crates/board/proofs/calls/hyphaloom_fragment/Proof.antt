@@ -1,4 +1,4 @@
--- The row and the length first, by the plan, which carried out is the step; then the packet.
+-- The row and the length come first, by the plan, and then the packet: a plan that is carried out is the step.
 use borrow.Author.Needs.{needs}
 use mathlib.Core.Path.{ap, _∙_}
 use lib.ListN.{length}

@@ -1,4 +1,4 @@
--- The tag that is looked for is the contract's: any owner but 0 is yes.
+-- The tag that is looked for is the contract's: any number but 0 for the owner is yes.
 use mathlib.Core.Path.{_≡_, ap, _∙_}
 use denote.Ref.{now}
 use Rattle.mctp.specs.Answer.{rowAfter}

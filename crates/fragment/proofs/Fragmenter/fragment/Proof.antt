@@ -1,6 +1,6 @@
 -- `Fragmenter::fragment` meets its contract, by a walk of its MIR. The borrow of the fragmenter is opened, the record is copied out and
 -- passed by value to `step`, of which the proof knows only its contract; the record that comes back is stored, and the borrow closed at it.
--- `payload` and `out` go to the callee at their own lifetimes, and nothing of them has to come back. Assumes nothing.
+-- `payload` and `out` go to the callee at their own lifetimes, and nothing of them has to come back. It assumes nothing.
 use mathlib.Core.Path.{_≡_, refl, ap}
 use Prim.Native.Nat.{ℕ}
 use mathlib.Core.List.{[], _∷_, List}
