@@ -1,4 +1,4 @@
--- A message that is cut by calls: a send that was started, and steps of the row that it left, until all is sent. The packets in the buffers carry the payload.
+-- A message that is cut by calls: a send is started, and the row that it leaves is stepped until all is sent. The packets in the buffers carry the payload.
 -- Leans on `cuts` of `fragment` for the steps, on the laws of `rows` for the row that is read back.
 use Prim.Native.Nat.{ℕ, _≤_, _<_}
 use native.Mathlib.Omega.{arith}
@@ -85,7 +85,7 @@ module _ (q : Send) (f : Fragmenter) where
 
 -- ---- the row
 
--- thirteen words
+-- a row of thirteen words
 data Row : List ℕ → Type 0 where
   row : (a b c d e f g h i j k l m : ℕ) → Row (a ∷ b ∷ c ∷ d ∷ e ∷ f ∷ g ∷ h ∷ i ∷ j ∷ k ∷ l ∷ m ∷ [])
 
@@ -184,7 +184,7 @@ record Ran (cs : List Cut) (f : Fragmenter) (payload : List ℕ) : Type 0 where
   packets : cutPackets cs ≡ written f payload (sizes cs)
   done : AllSent cs → after f payload (sizes cs) .done ≡ true
 
--- all is sent by the first, and it is the last, or by one after it
+-- all is sent by the first step, which is then the last, or by one after it
 all-by : (c : Cut) (cs : List Cut) (g : Fragmenter) (payload : List ℕ) → (c .said ≡ 0 → c .len ≡ 0 → g .done ≡ true) → Ran cs g payload → AllSent (c ∷ cs) → after g payload (sizes cs) .done ≡ true
 unfolding AllSent after sizes
 all-by c [] g payload h r a = h (a .0) (a .1)
@@ -214,7 +214,7 @@ module _ (q : Send) (st : Stack) (payload : List ℕ) (cs : List Cut) where
   abbrev CarryAs : Fragmenter → Type 0
   CarryAs g = Carries (keyUnder (st .head .«own_eid») (q .dest) (g .tag)) (q .typ) (q .ic) (g .mtu) payload (cutPackets cs)
 
-  -- f came of the start, and its row was stepped
+  -- f came from the start, and its row was stepped
   new-carries : (f : Fragmenter) → st .head .«own_eid» .0 < 256 → q .dest .0 < 256 → New q (st .head .«own_eid») f
       → CutRun cs (wordsOf f) payload → AllSent cs → CarryAs (fragmenterOf (wordsOf f))
   new-carries f own dest n run all =
@@ -236,7 +236,7 @@ abbrev pub sentKey : List ℕ → List ℕ → Deed → Key
 sentKey w b d = keyUnder (stackOf board b .head .«own_eid») (sendOf w .dest) (fragmenterOf (d .left .fragmenter) .tag)
 
 module _ (w b : List ℕ) (d : Deed) (k : Kept board b) (o : d .calls ≡ startSend (sendOf w) ∷ []) (done : Done d b) (z : d .said ≡ 0) where
-  -- A send that was started, answered 0, and steps of the row that it left, made until one is answered 0 and length 0: the packets in the buffers carry the
+  -- A send was started and answered 0, and the row that it left was stepped until a step was answered 0 and length 0. Then the packets in the buffers carry the
   -- payload, under the tag and within the MTU that stand in that row
   pub cuts-by-calls : (payload : List ℕ) (cs : List Cut) → CutRun cs (d .left .fragmenter) payload → AllSent cs
       → Carries (sentKey w b d) (sendOf w .typ) (sendOf w .ic) (fragmenterOf (d .left .fragmenter) .mtu) payload (cutPackets cs)

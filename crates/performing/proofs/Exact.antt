@@ -1,4 +1,4 @@
--- Demand 3, second half, and that a stale handle stays stale, of what is performed: `told` and `stale-stays` carried over from the model.
+-- Demand 3, second half, and that a stale handle stays stale, for what is performed: `told` and `stale-stays` are carried over from the model.
 use Prim.Native.Nat.{ℕ, _*_, _≤_}
 use mathlib.Core.Path.{_≡_, refl, sym, ap, subst, _∙_}
 use mathlib.Core.Bool.{true, false}
@@ -34,7 +34,7 @@ use Rattle.performing.specs.Trace.{Deed, Done, Trace, lastBytes, lastPoo
 use Rattle.performing.proofs.Traced.{world, Stands, as-world, traced}
 use Rattle.performing.proofs.Handed.{heard, last-out}
 
--- 0 and a row whose number is not 0: that handle was told
+-- where the answer is 0 and the row's number is not 0, that handle was told
 as-handle : (r : Received) (old : List ℕ) (h : ReceiveHandle) → answerNo (receivedAs r) ≡ 0 → rowAfter 2 (receivedAs r) old ≡ handleWords h → (h .issue ≡ 0 → ⊥)
     → receivedAs r ≡ gives (handleWords h)
 as-handle More old h z e n = absurd (n (cc))
@@ -104,7 +104,7 @@ module _ (h : ReceiveHandle) (d : Deed) (b : List ℕ) (e : isGood h (stackOf bo
       let g : Performs (setCookie h cookie ∷ []) b (d .after) (d .lent) (d .left) (d .said) = rw o at done in
       (rw e at (g .said), rw e at (g .stack))
 
-  -- a fetch leaves its row as it was, too; the pool is long enough
+  -- a fetch, lent a pool that is long enough, leaves its row as it was, too
   pub fetch-stale : (n : ℕ) → 4128 ≤ n → d .calls ≡ fetchMessage h n ∷ [] → Rejected d b × (d .left .message ≡ d .lent .message)
   unfolding tells steps step fetchOf pick
   fetch-stale n long o =

@@ -1,4 +1,4 @@
--- Demand 3, first half, of what is performed: `hands-out` carried over from the model to calls made by `perform`.
+-- Demand 3, first half, for what is performed: `hands-out` is carried over from the model to calls made by `perform`.
 use Prim.Native.Nat.{ℕ}
 use native.Mathlib.Omega.{arith}
 use mathlib.Core.Path.{_≡_, refl, sym, ap, subst, _∙_}
@@ -44,7 +44,7 @@ heard q d b p o h e =
     let g : Performs (receive q ∷ []) b (d .after) (d .lent) (d .left) (d .said) = rw o at h in
     subst (λ (x : List ℕ). Heard q d b x) e (record { said = g .said; handle = g .handle; stands = record { stack = g .stack; pool = g .pool } })
 
--- "more" in numbers is "more"
+-- an answer that says "more" in numbers is "more"
 as-more : (r : Received) → receivedAs r ≡ gives [] → r ≡ More
 as-more More e = refl
 as-more (Whole h) e = let z : _≡_ {A = ℕ} 2 0 = ap (λ (a : Answer). length (answerValues a)) e in absurd (omega arith)

@@ -1,5 +1,5 @@
 -- The premises of `joined-by-calls` can be met, by computation: two fresh stacks, such as `begin` leaves, and a message of two packets.
--- What is left to the calls is that they are made.
+-- Nothing is left to assume but that the calls are made.
 use Prim.Native.Nat.{ℕ, _≤_}
 use mathlib.Core.Path.{_≡_, refl, sym, ap, subst, _∙_}
 use mathlib.Core.Bool.{true, false}
@@ -119,7 +119,7 @@ begins b d e o done =
 -- ---- end to end
 
 module _ (x y b₁ b₂ p : List ℕ) (from : Becomes board x b₁ nine) (to : Becomes board y b₂ eight) (room : 4128 ≤ length p) where
-  -- EID 9 starts that send and cuts so; EID 8 receives the packets, with permitted calls between: the body is handed out
+  -- EID 9 starts that send and cuts it so, and EID 8 receives the packets, with permitted calls between: the body is handed out
   pub joined-met : (d : Deed) → d .calls ≡ startSend (sendOf query) ∷ [] → Done d b₁
       → (fs : List Fed) → packetsOf fs ≡ packets → Feeds fs b₂ p → allOf (allOf (permitted asks 0)) (gapsOf fs) ≡ true
       → Answers (record { key = asks; typ = record { 0 = 1 }; ic = record { 0 = false }; body = body; cookie = Absent }) fs

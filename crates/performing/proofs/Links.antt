@@ -78,7 +78,7 @@ module _ (b : List ℕ) (k : Kept board b) (r : ℕ) (l : Lent) where
   unfolding steps step tells
   free-tags-link peer e = record { stack = stays board b k; pool = refl; said = e; other = refl; handle = refl; message = refl; fragmenter = refl }
 
--- ---- a row is told
+-- ---- what is told goes into a row
 
 -- a lookup never refuses
 found-zero : (d : Deferred) → 0 ≡ answerNo (deferredAs d)
@@ -105,10 +105,10 @@ module _ (b b′ : List ℕ) (n n′ : List ℕ) (p o m f : List ℕ) where
   unfolding steps step tells
   by-cookie-link cookies e = record { stack = e .0; pool = refl; said = found-zero (byCookieOf cookies (stackOf board b) .said); other = refl; handle = e .1; message = refl; fragmenter = refl }
 
--- ---- bytes are moved
+-- ---- bytes are written or read
 
 module _ (b b′ : List ℕ) (r : ℕ) where
-  -- what the contract of a receive says: lent x, which it leaves as x′, and the row n, left as n′
+  -- what the contract of a receive says: it is lent x and leaves it as x′, and it is lent the row n and leaves it as n′
   abbrev Got : Receipt → (x x′ n n′ : List ℕ) → Type 0
   Got c x x′ n n′ = (r ≡ answerNo (receivedAs (c .said))) × (Becomes board b b′ (c .stack) × ((x′ ≡ over (c .at) (c .bytes) x) × (n′ ≡ rowAfter 2 (receivedAs (c .said)) n)))
 
@@ -122,7 +122,7 @@ module _ (b b′ : List ℕ) (r : ℕ) where
   unfolding steps step tells
   elsewhere-link q p o o′ n n′ m f e = record { stack = e .1 .0; pool = refl; said = e .0; other = e .1 .1 .0; handle = e .1 .1 .1; message = refl; fragmenter = refl }
 
-  -- what the contract of a send says of the stack after it, where the row is t, and where not
+  -- what the contract of a send says of the stack after it and of its row
   abbrev Sent′ : Sent → (f f′ : List ℕ) → Type 0
   Sent′ s f f′ = (r ≡ answerNo (startedAs (s .said))) × (Becomes board b b′ (s .stack) × (f′ ≡ rowAfter 13 (startedAs (s .said)) f))
 
@@ -136,7 +136,7 @@ module _ (b b′ : List ℕ) (r : ℕ) where
       go true e = record { stack = e .1 .0; pool = refl; said = e .0; other = refl; handle = refl; message = refl; fragmenter = e .1 .1 }
       go false e = record { stack = e .1 .0; pool = refl; said = e .0; other = refl; handle = refl; message = refl; fragmenter = e .1 .1 }
 
--- lent a buffer of that length, the watched pool or any other
+-- a fetch that is lent a buffer of that length, the watched pool or any other
 pub fetch-link : (b : List ℕ) → Kept board b → (r : ℕ) (h : ReceiveHandle) (room : ℕ) (p o n m m′ f : List ℕ)
     → (r ≡ answerNo (fetchedAs (fetchOf 1032 h (stackOf board b) room))) × (m′ ≡ rowAfter 10 (fetchedAs (fetchOf 1032 h (stackOf board b) room)) m)
     → Performs (fetchMessage h room ∷ []) b b (lent p o n m f) (lent p o n m′ f) r

@@ -35,43 +35,43 @@ lent p o h m f = record { pool = p; other = o; handle = h; message = m; fragment
 abbrev pub handleIn : List ℕ → ReceiveHandle
 handleIn w = record { index = word 0 w; issue = word 1 w }
 
--- 2 set the EID, 3 tell it, 4 is a packet for us
+-- 2 sets the EID, 3 tells it, 4 asks whether a packet is for us
 unfoldable pub ownCalls : ℕ → List ℕ → List ℕ → List Call
 ownCalls op w bytes =
     pick (eqb op 2) (setEid (narrow (word 0 w)) ∷ []) (pick (eqb op 3) (eid ∷ []) (pick (eqb op 4) (isLocalDest bytes ∷ []) []))
 
--- 8 the clock, 10 and 11 look for a message that was kept
+-- 8 takes the clock, 10 and 11 look for a message that was kept
 unfoldable pub lookCalls : ℕ → List ℕ → List ℕ → List Call
 lookCalls op w cookies =
     pick (eqb op 8) (update (word 0 w) ∷ [])
     (pick (eqb op 10) (getDeferred (record { 0 = narrow (word 0 w) }) (tagFrom (isYes (narrow (word 1 w))) (narrow (word 2 w))) ∷ [])
     (pick (eqb op 11) (getDeferredByCookie cookies ∷ []) []))
 
--- 13 finish, 14 return, 15 set the cookie
+-- 13 finishes, 14 returns, 15 sets the cookie
 unfoldable pub handleCalls : ℕ → List ℕ → List Call
 handleCalls op w =
     pick (eqb op 13) (finishedReceive (handleIn w) ∷ [])
     (pick (eqb op 14) (returnHandle (handleIn w) ∷ [])
     (pick (eqb op 15) (setCookie (handleIn w) (cookieFrom (isYes (narrow (word 2 w))) (word 3 w)) ∷ []) []))
 
--- 16 cancel a flow, 17 free tags
+-- 16 cancels a flow, 17 counts the free tags
 unfoldable pub flowCalls : ℕ → List ℕ → List Call
 flowCalls op w =
     pick (eqb op 16) (cancelFlow (record { 0 = narrow (word 0 w) }) (record { 0 = narrow (word 1 w) }) ∷ [])
     (pick (eqb op 17) (freeTags (record { 0 = narrow (word 0 w) }) ∷ []) [])
 
--- those that are lent no buffer but the handle's row
+-- the calls that are lent no buffer but the handle's row
 unfoldable pub smallCalls : ℕ → List ℕ → List ℕ → List ℕ → List Call
 smallCalls op w bytes cookies =
     pick (ltb op 5) (ownCalls op w bytes)
     (pick (ltb op 12) (lookCalls op w cookies) (pick (ltb op 16) (handleCalls op w) (flowCalls op w)))
 
--- 5 a send, where the row is a goodSend one
+-- 5 starts a send, where the row is a good send
 unfoldable pub sendCalls : List ℕ → List Call
 sendCalls w = pick (goodSend w) (startSend (sendOf w) ∷ []) []
 
--- 9 a packet lent the pool, 19 a packet lent the other buffer, 12 fetch from the pool, 20 fetch from the other buffer. `pool` and `other` are the buffers'
--- lengths
+-- 9 receives a packet and is lent the pool, 19 does so with the other buffer; 12 fetches from the pool, 20 from the other buffer. `pool` and `other` are the
+-- lengths of these buffers
 unfoldable pub callsOf : ℕ → List ℕ → List ℕ → List ℕ → ℕ → ℕ → List Call
 callsOf op w bytes cookies pool other =
     pick (eqb op 9) (receive bytes ∷ [])
@@ -82,7 +82,7 @@ callsOf op w bytes cookies pool other =
 
 -- ---- what is told
 
--- a number; and what then stands in the other buffer and in the rows
+-- what is told: a number, and what then stands in the other buffer and in the rows
 pub record Told : Type 0 where
   pub said : ℕ
   pub other : List ℕ
@@ -112,7 +112,7 @@ inMessage a l = record { said = answerNo a; other = l .other; handle = l .handle
 abbrev pub inFragmenter : Answer → Lent → Told
 inFragmenter a l = record { said = answerNo a; other = l .other; handle = l .handle; message = l .message; fragmenter = rowAfter 13 a (l .fragmenter) }
 
--- a receive lent the other buffer writes there
+-- a receive that is lent the other buffer writes there
 abbrev pub inOther : Receipt → Answer → Lent → Told
 inOther r a l = record { said = answerNo a; other = over (r .at) (r .bytes) (l .other); handle = rowAfter 2 a (l .handle); message = l .message; fragmenter = l .fragmenter }
 
@@ -148,7 +148,7 @@ pub record Begins (own mtu clock : ℕ) (b b′ : List ℕ) (r : ℕ) : Type 0 w
 abbrev pub worldOf : List ℕ → Lent → World
 worldOf b l = record { stack = stackOf board b; pool = l .pool }
 
--- the bytes b hold the stack, and l is lent; then the bytes are b′, what was lent is l′, and r is answered
+-- the bytes b hold the stack, and l is lent; after the call the bytes are b′, what was lent is l′, and r is answered
 pub record Performs (cs : List Call) (b b′ : List ℕ) (l l′ : Lent) (r : ℕ) : Type 0 where
   pub stack : Becomes board b b′ (steps maxPayload cs (worldOf b l) .stack)
   pub pool : l′ .pool ≡ steps maxPayload cs (worldOf b l) .pool

@@ -15,7 +15,7 @@ use Rattle.promises.specs.Delivery.{Message, readFrom, allOf}
 use Rattle.staying.specs.Staying.{spares}
 use Rattle.performing.specs.Perform.{Lent, Performs}
 
--- a call as it was made (none: what was no call); what was lent, and how it was left; the state's bytes afterwards; what was answered
+-- a call as it was made (an empty list where the numbers name no call): what was lent, how it was left, the state's bytes afterwards, and what was answered
 pub record Deed : Type 0 where
   pub calls : List Call
   pub lent : Lent
@@ -23,7 +23,7 @@ pub record Deed : Type 0 where
   pub after : List ℕ
   pub said : ℕ
 
--- it was performed on the bytes b: what `perform` ensures of the calls that its numbers name
+-- it was performed on the bytes b: this is what `perform` ensures of the calls that its numbers name
 abbrev pub Done : Deed → List ℕ → Type 0
 Done d b = Performs (d .calls) b (d .after) (d .lent) (d .left) (d .said)
 
@@ -58,7 +58,7 @@ unfoldable pub packetsOf : List Fed → List (List ℕ)
 packetsOf [] = []
 packetsOf (f ∷ fs) = f .packet ∷ packetsOf fs
 
--- the calls between the packets: what comes after the last is not between
+-- the calls between the packets; those after the last packet are not between
 unfoldable pub gapsOf : List Fed → List (List Call)
 gapsOf [] = []
 gapsOf (f ∷ []) = []
@@ -74,8 +74,8 @@ Feeds (f ∷ fs) b p =
     × (Trace (f .gap) (f .deed .after) (f .deed .left .pool)
     × Feeds fs (lastBytes (f .gap) (f .deed .after)) (lastPool (f .gap) (f .deed .left .pool)))))
 
--- a fetch that was performed is answered 0 and leaves in its row the facts of m, whose body lies in the pool at the place and of the length that the row says:
--- within the pool
+-- a fetch that was performed is answered 0 and leaves in its row the facts of m; its body lies within the pool, at the place and with the length that the row
+-- says
 pub record Gives (m : Message) (pool : List ℕ) (d : Deed) : Type 0 where
   pub facts : Facts
   pub said : d .said ≡ 0
@@ -83,8 +83,8 @@ pub record Gives (m : Message) (pool : List ℕ) (d : Deed) : Type 0 where
   pub inside : facts .at + facts .len ≤ length pool
   pub message : readFrom pool facts ≡ m
 
--- a packet is answered 0, with a handle in the row whose number is not 0; and a fetch with that handle, lent that pool, gives m: at once, and later after any
--- calls performed but a finish, a return or a set cookie under that very handle
+-- a packet is answered 0, with a handle in the row whose number is not 0. A fetch with that handle, lent that pool, gives m: at once, and also after any calls
+-- performed but a finish, a return or a set cookie under that very handle
 pub record HandsOut (m : Message) (d : Deed) : Type 0 where
   pub handle : ReceiveHandle
   pub said : d .said ≡ 0
@@ -94,7 +94,7 @@ pub record HandsOut (m : Message) (d : Deed) : Type 0 where
       → (e : Deed) → e .calls ≡ fetchMessage handle (length (lastPool ds (d .left .pool))) ∷ [] → Done e (lastBytes ds (d .after))
       → Gives m (lastPool ds (d .left .pool)) e
 
--- every packet before the last is answered 0 and issue 0, the last hands out m
+-- every packet before the last is answered 0 and issue 0, and the last hands out m
 unfoldable pub Answers : Message → List Fed → Type 0
 Answers m [] = ⊥
 Answers m (f ∷ []) = HandsOut m (f .deed)

@@ -1,6 +1,6 @@
-// Any call by its number, its numbers and its bytes, with an exact contract: state and pool afterwards are those of `steps`, of which the theorems speak.
-// So the prover checks that each exported call does what `step` says of it. Definitions: specs/Perform.antt.
-// Leans on `board` for the calls, on `rows` for numbers read, on `mctp` for a yes or no as a number; in definitions on `promises`.
+// Any call by its number and its arguments, with an exact contract: state and pool afterwards are those of `steps`, of which the theorems speak.
+// So the prover checks that each exported call does what `step` says of it. Definitions: specs/Perform.antt, specs/Cuts.antt.
+// Leans on `board` for the calls, on `rows` for numbers read, on `mctp` for a yes or no as a number; its definitions lean on `promises`.
 ghost use Prim.Native.Nat.{ℕ};
 ghost use mathlib.Core.Path.{_≡_};
 ghost use mathlib.Core.List.{List};
@@ -12,7 +12,7 @@ ghost use Rattle.performing.specs.Perform.{Lent, lent, Begins, Performs,
 use mctp::bit_of;
 use rows::narrow;
 
-// The own EID.
+// Calls on the own EID.
 fn own(op: u8, state: &mut [u8], args: &[u64; 10], bytes: &[u8]) -> u8
     requires { ⌜ Kept board (now state) ⌝ }
     ensures { λ r. ⌜ ((l : Lent) → Performs (ownCalls op (now (args .entry)) (now (bytes .entry))) (now (state .entry)) (now (state .exit)) l l r) ⌝ }
@@ -29,7 +29,7 @@ fn own(op: u8, state: &mut [u8], args: &[u64; 10], bytes: &[u8]) -> u8
     1
 }
 
-// Calls that answer two numbers.
+// Calls whose answer goes into a row of two numbers.
 fn look(op: u8, state: &mut [u8], args: &[u64; 10], cookies: &[u64], handle: &mut [u64; 2]) -> u8
     requires { ⌜ Kept board (now state) ⌝ }
     ensures { λ r. ⌜ ((p o m f : List ℕ) → Performs (lookCalls op (now (args .entry)) (now (cookies .entry))) (now (state .entry)) (now (state .exit)) (lent p o (now (handle .entry)) m f) (lent p o (now (handle .exit)) m f) r) ⌝ }

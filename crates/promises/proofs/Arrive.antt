@@ -53,14 +53,14 @@ receive-is : (B : ℕ) (st : Stack) (room : ℕ) (p : List ℕ) (h : Header) (j 
 unfolding receiveOf receiveBy receiveAt pick
 receive-is B st room p h j s d r q i g = rw (d, q, le-ltb room (B * length (st .slots)) r, lt-ltb j (length (st .slots)) i, g)
 
--- a packet of the number that is due, and that fits
+-- a packet that has the number that is due, and that fits
 append-is : (B : ℕ) (now : EventStamp) (issue : ℕ) (s : Reassembler) (h : Header) (p : List ℕ) (start : ℕ) → h .seq ≡ s .«next_seq» → s .len + (length p - start) ≤ B
     → append B now issue s h p start ≡ Takes (record { slot = appended (h .eom) now issue (length p - start) s; at = s .len; from = start; whole = h .eom })
 unfolding append pick
 append-is B now issue s h p start q f = rw (eq-eqb (h .seq) (s .«next_seq») q, le-ltb B (s .len + (length p - start)) f)
 
 module _ (B : ℕ) (K : Key) (typ : MsgType) (ic : MsgIC) (cookie : Cookie) (t₀ j : ℕ) where
-  -- what stands before a packet of K is taken, with `bytes` collected already
+  -- what holds before a packet of K is taken, with `bytes` collected already
   pub record Poised (bytes : List ℕ) (h : Header) (p : List ℕ) (w : World) : Type 0 where
     pub read : headerOf p ≡ Good h
     pub found : slotFor (Good h) (w .stack .slots) ≡ j
@@ -77,7 +77,7 @@ module _ (B : ℕ) (K : Key) (typ : MsgType) (ic : MsgIC) (cookie : Cookie) (t�
     pub body : bodyAt B j (length bytes) (w .pool) ≡ bytes
     pub later : t₀ ≤ w .stack .head .now .clock
 
-  -- what stands between two fragments
+  -- what holds between two fragments
   pub record Waiting (number : ℕ) (bytes : List ℕ) (w : World) : Type 0 where
     pub stamp : EventStamp
     pub slot : slotAt j (w .stack) ≡ gathering K typ ic number (length bytes) stamp cookie

@@ -1,4 +1,4 @@
--- The bits of a number that are set, and those that are not, are all of them.
+-- The bits of a number that are set and those that are not are all its bits.
 use Prim.Native.Nat.{ℕ, zero, suc, _+_, _*_, _/_, _%_}
 use native.Mathlib.Omega.{arith}
 use mathlib.Core.Path.{_≡_, refl, _∙_}
@@ -26,7 +26,7 @@ bits-step b n =
     rest true = omega arith
     rest false = omega arith
 
--- what is set and what is not are all
+-- the bits that are set and those that are not are n together
 pub all-bits : (f : ℕ → Bool) (t n : ℕ) → ones (bitsOf f t n) + howMany (λ k. not (f k)) t n ≡ n
 unfolding bitsOf howMany ones onesIn
 all-bits f t zero = refl

@@ -1,4 +1,4 @@
--- An event leaves the clock as it is. So a receive leaves the clock, and a send the clock and the slots.
+-- An event leaves the clock as it is. So a receive leaves the clock, and a send leaves the clock and the slots.
 use Prim.Native.Nat.{ℕ}
 use mathlib.Core.Path.{_≡_, refl, _∙_}
 use mathlib.Core.Bool.{Bool}

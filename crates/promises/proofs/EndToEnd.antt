@@ -22,7 +22,8 @@ use Rattle.promises.specs.Delivery.{Delivers, ready, cookieFor, allOf}
 use Rattle.promises.proofs.HandOut.{hands-out}
 
 module _ (typ : MsgType) (src dest : Eid) (tag : Tag) (mtu : ℕ) (cookie : Cookie) (ic : MsgIC) (seq : ℕ) where
-  -- f comes from `new`; the body is cut to its end; source not 255, destination 0 or own, body at most B; a slot for it; a full pool; permitted calls between
+  -- f comes from `new`, and the body is cut to its end. The source is not 255, the destination is 0 or the own EID, the body has at most B bytes, there is a
+  -- slot for it, the pool is long enough, and only permitted calls come between
   pub cut-and-joined : (f : Fragmenter) → newOf typ src dest tag mtu cookie ic seq ≡ Sends f
       → (body buffers : List ℕ) → after f body buffers .done ≡ true
       → (B : ℕ) (gaps : List (List Call)) (w : World)

@@ -1,4 +1,4 @@
--- What a test of truth values tells, and that two keys which a test takes for one are equal.
+-- What a test of truth values tells, and that two keys are equal where `sameKey` says that they are the same.
 use mathlib.Core.Path.{_≡_, refl}
 use mathlib.Core.Bool.{Bool, true, false, _&&_}
 use Rattle.octets.proofs.Bools as bools

@@ -1,4 +1,4 @@
--- The starred figures: the definitions give what docs/RULES.md, section 11, says, all by computation.
+-- The figures: the definitions give what docs/RULES.md, section 11, says, all by computation.
 use mathlib.Core.Path.{refl}
 use mathlib.Core.List.{[], _∷_}
 use Rattle.octets.specs.Pick.{pick}
@@ -22,12 +22,12 @@ use Rattle.updating.specs.Update.{checked, updateOf}
 use Rattle.promises.specs.Calls.{step}
 use Rattle.promises.specs.Figures.{tags, table, fourLost, Given}
 
--- the definitions give every starred figure
+-- the definitions give every figure of the table
 pub figures : Given table
 unfolding tags pick find part over headerOf next clocked expired timeoutOf bitsOf freeTagOf isFlow newFlow insertFlow withTag freshFlow setFlow fadedFlow fadedSlot slotFor isLocal opening gate gateEmpty enter append newOf stepOf written leastLeft anyExpired nextIssue land receiveAt receiveBy receiveOf sendAs ownedTag tagFor startSendOf checked updateOf step
 figures = (refl, (refl, (refl, (refl, (refl, (refl, (refl, (refl, (refl, (refl, (refl, tt)))))))))))
 
--- and four lost packets are not seen
+-- and four lost packets are not noticed
 pub loss-unseen : Given (fourLost ∷ [])
 unfolding pick find part over headerOf sameKey sameBool next slotFor isLocal opening gate gateEmpty enter append nextIssue land receiveAt receiveBy receiveOf step
 loss-unseen = (refl, tt)

@@ -44,7 +44,7 @@ unchanged : (K : Key) (j : ℕ) (l l′ : List Reassembler) → l′ ≡ l → S
 unchanged K j l l′ e = rw e (record { same = refl; fewer = λ k c. c; count = refl })
 
 module _ (K : Key) (j : ℕ) (l : List Reassembler) where
-  -- a slot elsewhere is stored, which does not collect under K
+  -- another slot is stored, which does not collect under K
   set-keeps : (i : ℕ) (s : Reassembler) → j ≢ i → (collects K s ≡ true → ⊥) → SlotsKeep K j l (set l i s)
   set-keeps i s ne n = record { same = getD-set-other l i j s blankSlot ne; fewer = λ k c. few k (ℕ-discrete k i) c; count = length-set l i s }
     where

@@ -29,7 +29,7 @@ use Rattle.promises.specs.Delivery.{collecting, cookieFor}
 use Rattle.promises.proofs.Facts.{no-both, no-true}
 use Rattle.promises.proofs.Slots.{collects-state, collects-key, not-in, find-none}
 
--- where a packet of header h lands: the slot that collects its key, or an empty one where none does, and then with SOM
+-- where a packet of header h lands: in the slot that collects its key, or in an empty one where none does and the packet has SOM
 pub data Source (l : List Reassembler) (i : ℕ) (h : Header) : Type 0 where
   collected : collects (h .key) (getD l i blankSlot) ≡ true → Source l i h
   opens : isEmpty (getD l i blankSlot) ≡ true → h .som ≡ true → ((k : ℕ) → collects (h .key) (getD l k blankSlot) ≡ false) → Source l i h
@@ -69,7 +69,7 @@ unfoldable pub Right : Stack → ℕ → Header → Gate → Type 0
 Right st i h (Shut err) = Unit {0}
 Right st i h (Pass s) = Enters st i h s
 
--- an empty slot takes none without SOM
+-- an empty slot takes no packet without SOM
 pub admits-som : (own : Eid) (h : Header) → admits own h ≡ true → h .som ≡ true
 unfolding admits
 admits-som own h = pick-cases P (λ _. pick-cases P (λ _ e. absurd (no-true e)) (λ _ e. e)) (λ _ e. absurd (no-true e))

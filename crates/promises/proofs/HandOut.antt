@@ -1,4 +1,4 @@
--- Demand 3, first half: a goodSend message is handed out, exactly, by its last fragment, and by none before it.
+-- Demand 3, first half: a lawful message is handed out, exactly, by its last fragment, and by none before it.
 -- The first fragment finds a slot, permitted calls leave that slot, and each later fragment finds it again.
 use Prim.Native.Nat.{ℕ, _+_, _≤_}
 use native.Mathlib.Nat.{zero-add}

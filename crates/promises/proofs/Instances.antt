@@ -45,7 +45,7 @@ use Rattle.promises.proofs.HandOut.{hands-out}
 use Rattle.promises.proofs.EndToEnd.{cut-and-joined}
 use Rattle.promises.proofs.Told.{told, told-here}
 
--- own EID 8, MTU 64, clock 0; 1,032 bytes a body
+-- own EID 8, MTU 64, clock 0; a body has at most 1,032 bytes
 abbrev pub start : World
 start = record { stack = freshStack (record { slots = 4; body = 1032 }) (record { 0 = 8 }) 64 0; pool = replicate 4128 0 }
 
@@ -97,7 +97,7 @@ abbrev between : List (List Call)
 between =
     (update 5000 ∷ receive other ∷ setEid 20 ∷ []) ∷ (elsewhere 5000 other ∷ finishedReceive (record { index = 1; issue = 1 }) ∷ cancelFlow (record { 0 = 9 }) (record { 0 = 2 }) ∷ update 6000 ∷ []) ∷ []
 
--- a message of several fragments with calls between: no cookie
+-- a message of several fragments with calls between, with no cookie
 pub three-met : Met asks (0xAA ∷ 0xBB ∷ 0xCC ∷ []) three between start Absent
 unfolding headerOf isLocal find pick sameKey sameBool
 three-met =
@@ -167,7 +167,7 @@ two-carried = record {
 abbrev late : List (List Call)
 late = (receive other ∷ update 6000 ∷ []) ∷ []
 
--- a reply whose flow stands: the flow's cookie
+-- a reply whose flow stands, with the flow's cookie
 pub reply-met : Met replies (0xAA ∷ 0xBB ∷ []) two late (steps 1032 (startSend query ∷ []) start) (Given (record { 0 = 77 }))
 unfolding isLocal find pick steps step startSendOf sendAs tagFor ownedTag setFlow freshFlow withTag insertFlow newFlow freeTagOf bitsOf isFlow next headerOf sameKey sameBool
 reply-met =
@@ -185,7 +185,7 @@ unfolding isLocal find pick steps step startSendOf sendAs tagFor ownedTag setFlo
     updateOf checked clocked expired timeoutOf fadedFlow fadedSlot leastLeft receiveOf receiveBy receiveAt headerOf slotFor gate gateEmpty gateReply opening land enter append
 flow-gone = refl
 
--- the reply begins again in that slot: the cookie that the slot has, though the flow is gone
+-- the reply begins again in that slot, with the cookie that the slot has, though the flow is gone
 pub restart-met : Met replies (0xAA ∷ 0xBB ∷ []) two [] stranded (Given (record { 0 = 77 }))
 unfolding isLocal find pick steps step startSendOf sendAs tagFor ownedTag setFlow freshFlow withTag insertFlow newFlow freeTagOf bitsOf isFlow next
     updateOf checked clocked expired timeoutOf fadedFlow fadedSlot leastLeft receiveOf receiveBy receiveAt headerOf slotFor gate gateEmpty gateReply opening land enter append sameKey sameBool over

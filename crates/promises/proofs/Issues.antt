@@ -1,5 +1,5 @@
--- No handle has number 0: none that goes out has, and none is ever good. So where an answer is 0, issue 0 in its row says "more is to come" or "there is none",
--- and nothing else does.
+-- No handle has number 0: none that goes out has it, and none with it is ever good. So where an answer is 0, issue 0 in its row says "more is to come" or
+-- "there is none", and nothing else does.
 use Prim.Native.Nat.{ℕ}
 use native.Mathlib.Omega.{arith}
 use mathlib.Core.Path.{_≡_, refl, sym, ap, _∙_}
@@ -30,7 +30,7 @@ next-some n = pick-cases (λ (x : ℕ). x ≡ 0 → ⊥) (λ _ e. omega arith) (
 
 -- ---- what goes out
 
--- with a packet, whatever pool is lent
+-- a handle that goes out with a packet, whatever pool is lent
 pub told-some : (B : ℕ) (st : Stack) (room : ℕ) (p : List ℕ) (h : ReceiveHandle) → receiveOf B st room p .said ≡ Told h → h .issue ≡ 0 → ⊥
 told-some B st room p h e z = next-some (st .head .issue) (sym (receive-counted B st p room .next h e .0) ∙ z)
 
@@ -44,7 +44,7 @@ take-some i st =
     (λ _ h e z. let y : record { index = i; issue = nextIssue (st .head .issue) } ≡ h = cc in next-some (st .head .issue) (ap (λ (x : ReceiveHandle). x .issue) y ∙ z))
     (λ _ h e z. let y : _≡_ {A = ℕ} 0 1 = cc in omega arith)
 
--- with either lookup
+-- a handle that goes out with either lookup
 pub source-some : (source : Eid) (tag : Tag) (st : Stack) → Some (bySourceOf source tag st)
 unfolding bySourceOf
 source-some source tag st =
@@ -60,7 +60,7 @@ state-some n f f′ (same e) x = ap (issueIs 0) e ∙ x
 state-some n f f′ (idle e) x = idle-issue 0 f′ e
 state-some n f f′ (fresh e) x = ap (issueIs 0) e ∙ ne-eqb (nextIssue n) 0 (next-some n)
 
--- number 0 is good in no slot, whatever calls come, where it is good in none to begin with: so it is in a new stack, which holds no message
+-- number 0 is good in no slot, whatever calls come, if it is good in none to begin with; in a new stack, which holds no message, it is good in none
 pub issue-some : (B i : ℕ) (calls : List Call) (w : World)
     → isGood (record { index = i; issue = 0 }) (w .stack) ≡ false → isGood (record { index = i; issue = 0 }) (steps B calls w .stack) ≡ false
 unfolding steps

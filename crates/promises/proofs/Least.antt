@@ -1,4 +1,4 @@
--- The least of a number and of the remaining times of a list: at most each of them, and one of them.
+-- The least of a number and of the remaining times of a list: it is at most each of them, and it is one of them.
 use Prim.Native.Nat.{ℕ, zero, suc, _≤_, min}
 use native.Mathlib.Nat.{le-refl}
 use native.Mathlib.Decide.{decLe}
@@ -12,7 +12,7 @@ use Rattle.stamp.specs.declared.Timeout.the-variants.{Untimed, Expired, Left}
 use Rattle.stamp.specs.Stamp.{soonerOf}
 use Rattle.stamp.specs.Checks.{leastLeft}
 
--- n is least of `most` and of what is left by the times f
+-- n is the least of `most` and of what the times f leave
 pub record LeastOf (n most : ℕ) {A : Type 0} (f : A → Timeout) (d : A) (l : List A) : Type 0 where
   pub bound : n ≤ most
   pub below : (k m : ℕ) → f (getD l k d) ≡ Left m → n ≤ m
@@ -55,7 +55,7 @@ module _ {A : Type 0} (f : A → Timeout) (d : A) where
       go (inl e) = first e (sooner-met (f x) n)
       go (inr q) = inr (suc (q .0), q .1)
 
-  -- where no time runs for what stands past the end
+  -- the same where no time runs for the element past the end
   pub least-left : f d ≡ Untimed → (l : List A) (n : ℕ) → LeastOf (leastLeft (map f l) n) n f d l
   unfolding leastLeft
   least-left e [] n = record { bound = le-refl n; below = λ k m x. absurd (untimed m x); met = inl refl }

@@ -1,4 +1,4 @@
--- A receive told apart by what it did: nothing, a slot emptied, a packet taken. Found by going through the definition, test by test.
+-- The three outcomes of a receive: nothing is done, a slot is emptied, or a packet is taken. They are found by going through the definition, test by test.
 use Prim.Native.Nat.{ℕ, _+_, _-_, _*_, _≤_, _<_}
 use mathlib.Core.Path.{_≡_, refl, sym, ap, _∙_}
 use mathlib.Core.Bool.{Bool, true, false}
@@ -33,7 +33,7 @@ use Rattle.promises.proofs.Facts.{no-both}
 use Rattle.promises.proofs.Clock.{next-clock, opening-clock}
 use Rattle.promises.proofs.Gate.{Source, Found, search-finds, Enters, Right, gate-right}
 
--- the slot as the packet finds it, once SOM has done its work
+-- the slot before the packet's body is appended, after SOM has been applied
 pub record Base (st : Stack) (i : ℕ) (h : Header) (p : List ℕ) (s : Reassembler) : Type 0 where
   pub state : s .state ≡ Collecting
   pub key : s .key ≡ h .key
@@ -96,7 +96,7 @@ module _ (B : ℕ) (st : Stack) (p : List ℕ) (h : Header) (read : headerOf p �
   issue₁ : ℕ
   issue₁ = nextIssue (st₁ .head .issue)
 
-  -- a packet of the number that is due, and that fits
+  -- a packet that has the number that is due, and that fits
   fills : (x : Reassembler) → Base st i h p x → h .seq ≡ x .«next_seq» → x .len + (length p - lead (h .som)) ≤ B
       → Whole (Takes (record { slot = appended (h .eom) now₁ issue₁ (length p - lead (h .som)) x; at = x .len; from = lead (h .som); whole = h .eom }))
   unfolding Whole issue₁

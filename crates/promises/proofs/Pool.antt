@@ -1,4 +1,4 @@
--- The pool: slot i keeps its body from byte B i. What a write into one slot's part makes of that part, and that it leaves every other's.
+-- The pool: slot i keeps its body from byte B i on. What a write into one slot's part makes of that part, and that it leaves every other slot's part.
 use Prim.Native.Nat.{ℕ, suc, _+_, _*_, _≤_, _<_}
 use native.Mathlib.Nat.{mul-le-mul-left}
 use native.Mathlib.Decide.{decLt}

@@ -1,6 +1,6 @@
--- docs/RULES.md 13 to 16 as laws: each call gives the refusals that `refusalsOf` lists and no others, each alone, and exactly when it is due
--- (`saysNo`); each of them is met; none changes a byte of a buffer; and most leave all as it was. What the others leave: `refused-receive`, `refused-send`,
--- `refused-cancel`.
+-- docs/RULES.md 13 to 16 as laws: each call gives the refusals that `refusalsOf` lists and no others, each alone, and exactly when it is due (`saysNo`). Each
+-- of them is met; none changes a byte of a buffer; and most leave all as it was. `refused-receive`, `refused-send` and `refused-cancel` say what the others
+-- leave.
 use Prim.Native.Nat.{ℕ}
 use mathlib.Core.Path.{_≡_, refl, ap, _∙_}
 use mathlib.Core.Bool.{true}
@@ -62,7 +62,7 @@ pub record Still (numbers : List ℕ) (w w′ : World) (n : ℕ) (vs : List ℕ)
   pub among : Among numbers n vs
   pub same : w′ ≡ w
 
--- of a call whose number is k
+-- the same of a call whose number is k
 abbrev Stays : ℕ → List ℕ → World → World → Answer → Type 0
 Stays k numbers w w′ a = Says k (Still numbers w w′) a
 
@@ -197,7 +197,7 @@ new-refusals z room mtu n vs e =
 
 -- ---- no refusal changes a byte of a buffer
 
--- the pool that we watch, whatever the call
+-- it changes no byte of the pool that we watch, whatever the call
 pub refused-buffers : (B : ℕ) (c : Call) (w : World) (n : ℕ) (vs : List ℕ) → performed B c w ≡ refuses n vs → step B c w .pool ≡ w .pool
 unfolding step
 refused-buffers B (receive p) w n vs e =
@@ -218,7 +218,7 @@ refused-buffers B eid w n vs e = refl
 refused-buffers B (isLocalDest p) w n vs e = refl
 refused-buffers B (freeTags peer) w n vs e = refl
 
--- and any other buffer that a receive is lent
+-- and none of any other buffer that a receive is lent
 pub refused-bytes : (B : ℕ) (st : Stack) (room : ℕ) (p : List ℕ) (err : Error) → receiveOf B st room p .said ≡ Refused err → receiveOf B st room p .bytes ≡ []
 refused-bytes B st room p err e = unreceived B st room p (errorNo err) [] (ap receivedAs e) .bytes
 
@@ -228,7 +228,7 @@ pub refusals-met : Met table
 unfolding asks pick find over headerOf sameKey sameBool next clocked expired timeoutOf bitsOf freeTagOf isFlow newFlow insertFlow withTag freshFlow setFlow fadedFlow fadedSlot isReply keptUnder slotFor isLocal opening gate gateEmpty gateReply enter append newOf leastLeft anyExpired nextIssue land receiveAt receiveBy receiveOf sendAs ownedTag tagFor startSendOf checked updateOf normalEid isGood handled fetchOf swept blocked cancelOf step
 refusals-met = (refl, (refl, (refl, (refl, (refl, (refl, (refl, (refl, (refl, (refl, tt))))))))))
 
--- by each of its ways
+-- and each is met in each of its ways
 pub ways-met : Met ways
 unfolding asks opens flatten pick find over headerOf sameKey sameBool next bitsOf freeTagOf isFlow newFlow insertFlow withTag freshFlow setFlow fixedFlow slotFor isLocal opening gate gateEmpty gateReply enter append newOf nextIssue land receiveAt receiveBy receiveOf sendAs ownedTag tagFor startSendOf step
 ways-met = (refl, (refl, tt))

@@ -1,4 +1,4 @@
--- An answer told apart: its number, and what holds of it where it is a refusal.
+-- Cases of an answer: its number, and what holds of it where it is a refusal.
 use Prim.Native.Nat.{ℕ}
 use mathlib.Core.Path.{_≡_, refl, sym, ap, subst, _∙_}
 use mathlib.Core.Bool.{true, false}
@@ -25,7 +25,7 @@ number k P (refuses n vs) h = sym (h .0)
 abbrev pub Where : (ℕ → List ℕ → Type 0) → Answer → Type 0
 Where P a = Says (answerNo a) P a
 
--- what follows of a refusal
+-- what follows from what holds of a refusal
 pub weaker : (k : ℕ) (P Q : ℕ → List ℕ → Type 0) (a : Answer) → ((n : ℕ) (vs : List ℕ) → P n vs → Q n vs) → Says k P a → Says k Q a
 weaker k P Q (gives vs) f h = h
 weaker k P Q (refuses n vs) f h = (h .0, f n vs (h .1))
@@ -34,7 +34,7 @@ weaker k P Q (refuses n vs) f h = (h .0, f n vs (h .1))
 pub sole : {numbers : List ℕ} {n : ℕ} → isOne n numbers ≡ true → Among numbers n []
 sole i = record { number = i; alone = refl }
 
--- with no first reason the second, and else the first
+-- without a first refusal it is the second, and otherwise the first
 pub first-none : (n m : ℕ) → n ≡ 0 → firstOf n m ≡ m
 first-none n m e = ap (λ (x : ℕ). firstOf x m) e ∙ pick-true _ _ _ refl
 

@@ -1,5 +1,5 @@
--- A refused cancel: its number, and what it leaves of the stack. What the walk over the slots makes is told slot by slot, from the first place at which it
--- would stop.
+-- A refused cancel: its number, and what it leaves of the stack. What the walk makes of the slots is told slot by slot, by the first place at which it would
+-- stop.
 use Prim.Native.Nat.{ℕ, zero, suc}
 use native.Mathlib.Omega.{arith}
 use mathlib.Core.Path.{_≡_, refl, sym, ap, _∙_}
@@ -47,7 +47,7 @@ module _ (peer : Eid) (tag : TagValue) where
       let e = swept-is l k ∙ sym (on k (find (stops peer tag) l) (isReply peer tag (getD l k blankSlot)) (getD l k blankSlot)) in
       bool-cases (isReply peer tag s) (λ r. bool-cases (handleTaken s) (λ t. rw (r, t, le-ltb (suc k) 0 (omega arith))) (λ t. rw (r, t) e)) (λ r. rw r e)
 
-  -- it is blocked where there is a place to stop
+  -- the walk is blocked where there is a place to stop
   blocked-is : (l : List Reassembler) → blocked peer tag l ≡ some (stops peer tag) l
   unfolding blocked some pick
   blocked-is [] = refl

@@ -1,4 +1,4 @@
--- A refused receive: its number, what it leaves of the stack, and that it writes nothing. Found by going through the definition, test by test.
+-- A refused receive: its number, what it leaves of the stack, and that it writes nothing. All this is found by going through the definition, test by test.
 use Prim.Native.Nat.{ℕ, _*_, _≤_, _<_, _-_}
 use mathlib.Core.Path.{_≡_, refl, sym, ap, _∙_}
 use mathlib.Core.Bool.{Bool, true, false}
@@ -44,7 +44,7 @@ pub record Unreceived (B : ℕ) (st : Stack) (room : ℕ) (p : List ℕ) (h : He
   pub left : Left B st room p h i n (r .stack)
   pub bytes : r .bytes ≡ []
 
--- of a receipt whose number is k
+-- the same of a receipt whose number is k
 module _ (B : ℕ) (st : Stack) (room : ℕ) (p : List ℕ) (read : HeaderRead) (i k : ℕ) where
   Fate : Receipt → Type 0
   Fate r = Says k (Unreceived B st room p read i r) (receivedAs (r .said))
@@ -198,7 +198,7 @@ module _ (st : Stack) (i : ℕ) (st′ : Stack) where
   spares B room p r n (not-begun _ _ _ _ _ _ e) = one-stored (ap (λ (x : Stack). x .flows) e) (ap (λ (x : Stack). x .slots) e)
   spares B room p r n (broken-off _ _ _ _ _ e) = one-stored (ap (λ (x : Stack). x .flows) e) (ap (λ (x : Stack). x .slots) e)
 
--- the flows stay, and every slot but the one that the packet had
+-- the flows stay, and so does every slot but the one that the packet had
 pub refused-same : (B : ℕ) (st : Stack) (room : ℕ) (p : List ℕ) (n : ℕ) (vs : List ℕ) → receivedAs (receiveOf B st room p .said) ≡ refuses n vs
     → Spared st (placeOf p st) (receiveOf B st room p .stack)
 refused-same B st room p n vs e = spares st (placeOf p st) (receiveOf B st room p .stack) B room p (headerOf p) n (refused-receive B st room p n vs e)

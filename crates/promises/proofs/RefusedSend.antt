@@ -1,4 +1,4 @@
--- A refused send: its number, and what it leaves of the stack. Found by going through the definition, test by test.
+-- A refused send: its number, and what it leaves of the stack. All this is found by going through the definition, test by test.
 -- What a send leaves does not depend on its MTU, so an MTU that is refused leaves what a good one does.
 use Prim.Native.Nat.{ℕ, zero, suc, _+_, _≤_, _<_}
 use native.Mathlib.Decide.{ℕ-discrete}
@@ -114,7 +114,7 @@ module _ (q : Send) (st : Stack) where
   Fate k s = startSendOf (withMtu (AtMost 5) q) st .stack ≡ s .stack → Says k (Unsends q st (s .stack)) (startedAs (s .said))
 
   module _ (k : ℕ) (kind : q .typ .0 ≤ 127) where
-    -- a tag that there is: the MTU decides
+    -- where the send has its tag, the MTU decides
     under : (tag : Tag) (st₁ : Stack) → tagOf tag .0 ≤ 7 → st₁ .head .mtu ≡ st .head .mtu → k ≡ mtuNo (mtuOf (q .mtu) (st₁ .head .mtu)) → Fate k (sendUnder q tag st₁)
     unfolding newOf Fate
     under tag st₁ t m is e =

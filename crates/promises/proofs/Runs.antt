@@ -1,4 +1,4 @@
--- Every call keeps the stories: a packet that is taken goes on with one, and any other call at most ends some.
+-- Every call keeps the stories of the slots: a packet that is taken continues one, and any other call at most ends some.
 use Prim.Native.Nat.{ℕ, zero, suc, _+_, _*_, _≤_}
 use mathlib.Core.Path.{_≡_, refl, sym, ap, _∙_, subst}
 use mathlib.Core.Bool.{Bool, true, false}
@@ -31,7 +31,7 @@ takes-said true i n = refl
 takes-said false i n = refl
 
 module _ (B : ℕ) (H : List Taken) (w : World) (v : Inv B H w) (p : List ℕ) (lent : Bool) where
-  -- what a receive makes, the watched pool being lent or not
+  -- what a receive makes, whether the watched pool is lent or not
   abbrev pub after : Receipt → World
   after r = record { stack = r .stack; pool = pick lent (over (r .at) (r .bytes) (w .pool)) (w .pool) }
 

@@ -1,4 +1,4 @@
--- Wrong stacks (docs/PROMISES.md, "Shut out"): for each a statement that no stack of these definitions is one.
+-- Wrong stacks (docs/PROMISES.md, "Shut out"): for each there is a statement that no stack of these definitions is one.
 use Prim.Native.Nat.{ℕ, _-_, _≤_, _<_}
 use native.Mathlib.Omega.{arith}
 use mathlib.Core.Path.{_≡_, refl, sym, ap, _∙_, subst}
@@ -55,7 +55,7 @@ use Rattle.promises.proofs.Bits.{howMany, all-bits}
 
 -- ---- one that refuses all
 
--- the first packet of a goodSend message is taken, and by `hands-out` every later one
+-- the first packet of a lawful message is taken, and by `hands-out` so is every later one
 pub not-refused : (B : ℕ) (K : Key) (typ : MsgType) (ic : MsgIC) (mtu : ℕ) (body p : List ℕ) (ps : List (List ℕ)) (gaps : List (List Call)) (w : World)
     → Lawful B K typ ic mtu body (p ∷ ps) gaps w → takes (receipt B p w .said) ≡ true
 unfolding Delivers
@@ -64,7 +64,7 @@ not-refused B K typ ic mtu body p (q ∷ ps) gaps w law = zero-takes (receipt B 
 
 -- ---- one that hands out the same message always
 
--- two goodSend messages for which one and the same message is handed out are one: key, type, IC and body
+-- two lawful messages for which one and the same message is handed out are the same in key, type, IC and body
 pub not-always-one : (B : ℕ) (K K′ : Key) (typ typ′ : MsgType) (ic ic′ : MsgIC) (mtu mtu′ : ℕ) (body body′ : List ℕ) (ps ps′ : List (List ℕ))
     (gaps gaps′ : List (List Call)) (w w′ : World)
     → Lawful B K typ ic mtu body ps gaps w → Lawful B K′ typ′ ic′ mtu′ body′ ps′ gaps′ w′
@@ -111,7 +111,7 @@ module _ (B : ℕ) (st : Stack) (p : List ℕ) (h : ReceiveHandle) where
   message-took r (dropped i g read src s b n) e = absurd (no-both (takes (r .said)) (ap takes e) n)
   message-took r (took i g t) e = (i, g, t)
 
--- a stack that hands out a message is another afterwards
+-- a stack that hands out a message is changed by that
 pub changes : (B : ℕ) (p : List ℕ) (w : World) (h : ReceiveHandle) → receipt B p w .said ≡ Told h → step B (receive p) w .stack ≡ w .stack → ⊥
 unfolding step
 changes B p w h e same =
@@ -140,7 +140,7 @@ not-before-eom B st room p g read n h e =
 
 -- ---- one that invents the remaining time
 
--- n is the least of 100 and every remaining time at that clock: at most each of them, and one of them
+-- n is the least of 100 and every remaining time at that clock: it is at most each of them, and it is one of them
 pub record Remaining (n now : ℕ) (st : Stack) : Type 0 where
   pub most : n ≤ 100
   pub slots : (k m : ℕ) → slotTimeout now (slotAt k st) ≡ Left m → n ≤ m

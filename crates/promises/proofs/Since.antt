@@ -1,4 +1,5 @@
--- What one more packet makes of the packets taken since the newest opening one: nothing for another key, a list of its own with SOM, else one more at the end.
+-- What one more packet makes of the packets taken since the newest opening one: nothing for another key; with SOM it begins a list of its own; otherwise it is
+-- one more at the end.
 use Prim.Native.Nat.{ℕ, _+_, _%_}
 use mathlib.Core.Path.{_≡_, refl, sym, ap, _∙_}
 use mathlib.Core.Bool.{Bool, true, false, not, _&&_}
@@ -33,7 +34,7 @@ unfolding gathered
 gathered-snoc [] t = append-nil (bodyIn (t .packet))
 gathered-snoc (x ∷ l) t = ap (λ (r : List ℕ). bodyIn (x .packet) ++ r) (gathered-snoc l t) ∙ sym (append-assoc (bodyIn (x .packet)) (gathered l) (bodyIn (t .packet)))
 
--- the number that is due after one numbered n and then l
+-- the number that is due after a packet numbered n and then the packets l
 abbrev dueAfter : ℕ → List Taken → ℕ
 dueAfter n [] = (n + 1) % 4
 dueAfter n (t ∷ l) = dueAfter (t .header .seq) l
@@ -90,7 +91,7 @@ pub opens-snoc : (m : Message) (l : List Taken) (t : Taken) → Opens m l → Op
 opens-snoc m [] t o = absurd o
 opens-snoc m (x ∷ l) t o = o
 
--- type, IC and cookie are all that it looks at
+-- `Opens` looks at type, IC and cookie alone
 pub opens-as : (m m′ : Message) → m′ .typ ≡ m .typ → m′ .ic ≡ m .ic → m′ .cookie ≡ m .cookie → (l : List Taken) → Opens m l → Opens m′ l
 opens-as m m′ a b c [] o = absurd o
 opens-as m m′ a b c (t ∷ l) o = (o .0 ∙ (λ i. record { typ = sym a i; ic = sym b i }), c ∙ o .1)

@@ -1,4 +1,4 @@
--- A slot that collects under a key is in that state and has that key; and where a test on slots passes in a list of them.
+-- A slot that collects under a key is in the collecting state and has that key. And where a test on slots passes in a list of them.
 use Prim.Native.Nat.{ℕ, zero, suc, _+_, _%_, _≤_, _<_}
 use native.Mathlib.Omega.{arith}
 use native.Mathlib.Decide.{decLt}
@@ -42,7 +42,7 @@ module _ (K : Key) (s : Reassembler) (c : collects K s ≡ true) where
 pub idle-collects : (K : Key) (s : Reassembler) → collectingState (s .state) ≡ false → collects K s ≡ true → ⊥
 idle-collects K s n c = no-both (collectingState (s .state)) (ap collectingState (collects-state K s c)) n
 
--- what a packet's bytes make of a slot, closed or not
+-- what a packet's bytes make of a slot, whether they close it or not
 pub record Parts (s s′ : Reassembler) (n : ℕ) : Type 0 where
   pub key : s′ .key ≡ s .key
   pub typ : s′ .typ ≡ s .typ
@@ -72,7 +72,7 @@ module _ {A : Type 0} (f : A → Bool) (d : A) (n : f d ≡ false) where
   pub find-is : (l : List A) (k : ℕ) → f (getD l k d) ≡ true → ((i : ℕ) → i < k → f (getD l i d) ≡ false) → find f l ≡ k
   find-is l k y first = find-at f l k d (passes-in l k y) y first
 
-  -- nothing is found: none passes
+  -- where nothing is found, none passes
   pub find-none : (l : List A) → length l ≤ find f l → (k : ℕ) → f (getD l k d) ≡ false
   find-none l h k = go (decLt k (length l))
     where

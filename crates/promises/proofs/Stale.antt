@@ -1,6 +1,6 @@
--- A stale handle stays stale. The mistake: freeing by a stale handle, when the slot may hold another message by then. A call refuses a handle that is no
--- good; here no call makes one good again. After a call a slot has the state it had, or no handle is out, or it is out under the next number of the one
--- count, and while that count goes on the next number is above every number that has gone out.
+-- A stale handle stays stale. The mistake would be to free a slot by a stale handle, when the slot may hold another message by then. A call refuses a handle
+-- that is no good; here no call makes one good again. After a call a slot has the state it had, or it has no handle out, or its handle is out under the next
+-- number of the one count; and while that count goes up, the next number is above every number that has gone out.
 use Prim.Native.Nat.{ℕ, zero, suc, _≤_, _<_}
 use native.Mathlib.Nat.{le-refl}
 use native.Mathlib.Omega.{arith}
@@ -69,7 +69,7 @@ next-grows : (n : ℕ) → n ≤ nextIssue n
 unfolding nextIssue
 next-grows n = pick-cases (λ (m : ℕ). n ≤ m) (λ _. omega arith) (λ _. le-refl n)
 
--- while the count goes on, the next number is above every number that has gone out
+-- while the count goes up, the next number is above every number that has gone out
 next-above : (st : Stack) (n : ℕ) → n ≤ st .head .issue → counting st → n < nextIssue (st .head .issue)
 unfolding nextIssue
 next-above st n h c =
@@ -298,7 +298,7 @@ unfolding steps
 counts-grow B [] w = le-refl (w .stack .head .issue)
 counts-grow B (c ∷ cs) w = omega (arith, count-grows B c w, counts-grow B cs (step B c w))
 
--- the number of a handle that goes out is the count then: with a received message, and with a deferred one
+-- the number of a handle that goes out is the count after it: with a received message, and with a deferred one
 pub told-counted : (B : ℕ) (p : List ℕ) (w : World) (h : ReceiveHandle) → receipt B p w .said ≡ Told h → h .issue ≡ step B (receive p) w .stack .head .issue
 unfolding step
 told-counted B p w h e = let n = receive-counted B (w .stack) p (length (w .pool)) .next h e in n .0 ∙ sym (n .1)
@@ -315,7 +315,7 @@ found-counted st i h =
 out-in : (h : ReceiveHandle) (st : Stack) → handleIs (h .issue) (slotAt (h .index) st) ≡ true → h .index < length (st .slots)
 out-in h st y = passes-in (handleIs (h .issue)) blankSlot refl (st .slots) (h .index) y
 
--- a handle is good where it is out: past the slots there is none
+-- a handle is good exactly where it is out: past the slots no handle is out
 pub good-is : (h : ReceiveHandle) (st : Stack) → isGood h st ≡ handleIs (h .issue) (slotAt (h .index) st)
 unfolding isGood
 good-is h st =

@@ -1,4 +1,4 @@
--- What the history tells of a slot that collects: its body, the number due, and what opened it; and what one more packet makes of that.
+-- What the history tells about a slot that collects: its body, the number that is due, and what opened it; and what one more packet makes of that.
 use Prim.Native.Nat.{ℕ, _+_, _*_, _%_, _≤_}
 use native.Mathlib.Decide.{ℕ-discrete}
 use native.Mathlib.Omega.{arith}
@@ -44,7 +44,7 @@ pub record Inv (B : ℕ) (H : List Taken) (w : World) : Type 0 where
 
 -- ---- a call that starts no slot, and leaves the pool
 
--- each slot that collects afterwards stood so before
+-- each slot that collects afterwards was the same before
 pub record Shrinks (l l′ : List Reassembler) : Type 0 where
   pub stood : (K : Key) (k : ℕ) → collects K (getD l′ k blankSlot) ≡ true → getD l′ k blankSlot ≡ getD l k blankSlot
   pub count : length l′ ≡ length l

@@ -75,7 +75,7 @@ module _ (B : ℕ) (H : List Taken) (w : World) (v : Inv B H w) (p : List ℕ) (
   apart : (k n : ℕ) → k ≢ i → n ≤ B → bodyAt B k n pool-now ≡ bodyAt B k n (w .pool)
   apart k n ne le = pick-cases (λ (d : List ℕ). bodyAt B k n d ≡ bodyAt B k n (w .pool)) (λ _. body-apart B i (t .base .len) (bodyIn p) (w .pool) (t .fits) holds k n le ne) (λ _. refl)
 
-  -- every other's story is as it was
+  -- every other slot's story is as it was
   others : (k : ℕ) → k ≢ i → (K : Key) → collects K (slotAt k (w .stack)) ≡ true → Story B pool-now k (since K (taken ∷ H)) (slotAt k (w .stack))
   others k ne K c =
       let o = v .story k K c in
@@ -100,7 +100,7 @@ module _ (B : ℕ) (H : List Taken) (w : World) (v : Inv B H w) (p : List ℕ) (
   pub key-now : slot-now .key ≡ h .key
   key-now = parts (h .eom) (t .now) (t .issue) (length (bodyIn p)) (t .base) .key ∙ t .is-base .key
 
-  -- what collects at i is the packet's key
+  -- slot i collects under the packet's key, if it collects
   here-key : (K : Key) → collects K (getD (r .stack .slots) i blankSlot) ≡ true → h .key ≡ K
   here-key K c = sym key-now ∙ collects-key K slot-now (rw here-slot at c)
 

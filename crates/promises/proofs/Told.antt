@@ -33,7 +33,7 @@ use Rattle.promises.proofs.Story.{Story, Inv}
 use Rattle.promises.proofs.Taking.{taken, pool-now, slot-now, own, here-slot, key-now}
 use Rattle.promises.proofs.Runs.{after, log, took-log, took-pool, steps-inv, fresh-inv}
 
--- the handle is of the slot that took the packet
+-- the handle belongs to the slot that took the packet
 pub index-is : (b : Bool) (i n : ℕ) (h : ReceiveHandle) → saidOf b i n ≡ Handed h → i ≡ h .index
 index-is true i n h e = let z : record { index = i; issue = n } ≡ h = cc in ap (λ (x : ReceiveHandle). x .index) z
 index-is false i n h e = let z : i ≡ h .index = cc in z

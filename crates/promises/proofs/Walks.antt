@@ -1,5 +1,5 @@
--- What a call that is no receive does to the slots: each stays, or it is one of those that the call may take and collects no more.
--- Nothing starts to collect, the slots stay as many as they are, and the clock does not go back.
+-- What a call that is no receive does to the slots: each stays, or it is one of those that the call may take and no longer collects.
+-- No slot starts to collect, the number of slots stays, and the clock does not go back.
 use Prim.Native.Nat.{ℕ, zero, suc, _≤_, _<_}
 use native.Mathlib.Nat.{le-refl}
 use native.Mathlib.Decide.{ℕ-discrete, decLt}
@@ -54,7 +54,7 @@ pub untouched : {P : Reassembler → Type 0} (st st′ : Stack) → st′ .slots
 untouched st st′ e h = record { each = λ k. stays (ap (λ (l : List Reassembler). getD l k blankSlot) e); count = ap length e; later = h }
 
 module _ (P : Reassembler → Type 0) (st : Stack) where
-  -- one slot is stored, and collects no more
+  -- one slot is stored, and no longer collects
   set-each : (i : ℕ) (s : Reassembler) → collectingState (s .state) ≡ false → P (slotAt i st)
       → (k : ℕ) → Changed (P (slotAt k st)) (slotAt k st) (getD (set (st .slots) i s) k blankSlot)
   set-each i s n x k = go (ℕ-discrete k i)

@@ -1,6 +1,7 @@
--- Every public call on a stack with all its arguments, what it makes of the stack and of the pool that we watch, and what it answers: through the
--- definitions that the contracts of `estack` cite, and nothing else: it leans on those. B is the most that a body holds.
--- A receive comes in two kinds: lent the watched pool, or lent any other buffer. No other call writes a pool.
+-- Every public call on a stack with all its arguments: what it makes of the stack and of the pool that we watch, and what it answers. B is the most bytes that
+-- a body holds.
+-- A receive comes in two kinds: it is lent the watched pool, or any other buffer. No other call writes a pool.
+-- Leans on the definitions that the contracts of `estack` cite, and on nothing else.
 use Prim.Native.Nat.{ℕ, _+_, _≤_}
 use mathlib.Core.Bool.{Bool, true, false, not, _&&_}
 use mathlib.Core.List.{List, [], _∷_}
@@ -97,17 +98,17 @@ unfoldable pub steps : ℕ → List Call → World → World
 steps B [] w = w
 steps B (c ∷ cs) w = steps B cs (step B c w)
 
--- p is a packet of that key
+-- whether a header is good and has that key
 abbrev pub hasKey : Key → HeaderRead → Bool
 hasKey K (Good h) = sameKey (h .key) K
 hasKey K Bad = false
 
--- a message of that key is a reply of that peer and tag
+-- whether a message of that key is a reply of that peer and tag
 abbrev pub replyOf : Key → Eid → TagValue → Bool
 replyOf K peer tag = not (K .owner) && (sameEid (K .source) peer && sameTag (K .tag) tag)
 
--- what may come between the fragments of a message of key K whose first came at clock t₀: anything but a packet of that key, for a reply a cancel of its
--- peer and tag, or a clock more than 6,000 ms past the first
+-- whether a call may come between the fragments of a message of key K whose first fragment came at clock t₀: all may but a packet of that key, a cancel of its
+-- peer and tag where it is a reply, and a clock more than 6,000 ms past t₀
 abbrev pub permitted : Key → ℕ → Call → Bool
 permitted K t₀ (receive p) = not (hasKey K (headerOf p))
 permitted K t₀ (elsewhere n p) = not (hasKey K (headerOf p))

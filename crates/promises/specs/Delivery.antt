@@ -1,4 +1,4 @@
--- What it is that a message is delivered: its packets come in order, with calls between, none before the last hands anything out, and the last hands out
+-- What it means that a message is delivered: its packets come in order, with calls between, none before the last hands anything out, and the last hands out
 -- exactly that message. And what demand 3 asks of the state at the first fragment.
 -- Leans on `Calls`, and on `fragment` for what DSP0236 calls a message in packets.
 use Prim.Native.Nat.{ℕ, _+_, _*_, _≤_}
@@ -46,7 +46,7 @@ readFrom pool m = record { key = m .key; typ = m .typ; ic = m .ic; body = part (
 abbrev pub messageAt : ℕ → ℕ → World → Message
 messageAt B i w = readFrom (w .pool) (messageIn B i (slotAt i (w .stack)))
 
--- the packet p hands out m: it is answered 0 with a handle's index and number, and a fetch under that handle, lent the same pool, gives m
+-- the packet p hands out m: the answer is 0 with a handle's index and number, and a fetch under that handle, lent the same pool, gives m
 pub record Hands (B : ℕ) (m : Message) (p : List ℕ) (w : World) : Type 0 where
   pub handle : ReceiveHandle
   pub told : performed B (receive p) w ≡ gives (handleWords handle)
@@ -63,7 +63,7 @@ abbrev pub laterGaps : List (List Call) → List (List Call)
 laterGaps [] = []
 laterGaps (g ∷ gs) = gs
 
--- the packets come in order, lent the watched pool, with calls after each: every one before the last is answered 0 and no handle, the last hands out m
+-- the packets come in order, lent the watched pool, with calls after each: every packet before the last is answered 0 and no handle, and the last hands out m
 unfoldable pub Delivers : ℕ → Message → List (List ℕ) → List (List Call) → World → Type 0
 Delivers B m [] gaps w = ⊥
 Delivers B m (p ∷ []) gaps w = Hands B m p w
@@ -74,15 +74,15 @@ abbrev pub allOf : {A : Type 0} → (A → Bool) → List A → Bool
 allOf f [] = true
 allOf f (x ∷ l) = f x && allOf f l
 
--- a slot collects that key
+-- whether a slot collects that key
 abbrev pub collecting : Key → Stack → Bool
 collecting K st = ltb (find (collects K) (st .slots)) (length (st .slots))
 
--- a slot is free
+-- whether a slot is free
 abbrev pub vacancy : Stack → Bool
 vacancy st = ltb (find isEmpty (st .slots)) (length (st .slots))
 
--- at the first fragment: a slot still collects that key, or one is free and a reply has its flow standing
+-- whether the first fragment finds a slot: one still collects that key, or one is free, and for a reply its flow stands
 abbrev pub ready : Key → Stack → Bool
 ready K st = collecting K st || (vacancy st && (K .owner || standing (K .source) (K .tag) (st .flows)))
 
@@ -92,8 +92,8 @@ cookieFor K st =
     pick (collecting K st) (slotAt (find (collects K) (st .slots)) st .cookie)
     (pick (K .owner) Absent (flowCookie (K .source) (K .tag) (st .flows)))
 
--- demand 3's premises at the first fragment, in the world w: these packets carry the body as one message; body at most B; source not 255; destination 0 or
--- the own EID; a slot for it; a full pool; and only permitted calls between the fragments
+-- demand 3's premises at the first fragment, in the world w: these packets carry the body as one message; the body has at most B bytes; the source is not 255;
+-- the destination is 0 or the own EID; there is a slot for it; the pool is long enough; and only permitted calls come between the fragments
 pub record Lawful (B : ℕ) (K : Key) (typ : MsgType) (ic : MsgIC) (mtu : ℕ) (body : List ℕ) (ps : List (List ℕ)) (gaps : List (List Call)) (w : World) : Type 0 where
   pub carries : Carries K typ ic mtu body ps
   pub fits : length body ≤ B

@@ -1,5 +1,5 @@
--- The starred figures (docs/RULES.md, section 11) as one table: what the definitions give for each, and what is said there.
--- A fresh stack of 4 slots of 1,032 bytes, own EID 8, clock 0; the pool is 4,128 zero bytes.
+-- The figures of docs/RULES.md, section 11, as one table: what the definitions give for each, and what that section says.
+-- Each starts on a fresh stack of 4 slots of 1,032 bytes, own EID 8, clock 0; the pool is 4,128 zero bytes.
 -- Leans on `Calls` and the definitions of `estack` and `fragment`.
 use Prim.Native.Nat.{ℕ}
 use mathlib.Core.Path.{_≡_}
@@ -131,35 +131,35 @@ cutOnce = record { given = sent 255 Own (0xAA ∷ 0xBB ∷ 0xCC ∷ []) (255 ∷
 abbrev pub cutTwice : Row
 cutTwice = record { given = sent 255 (AtMost 6) (0xAA ∷ 0xBB ∷ 0xCC ∷ []) (255 ∷ 255 ∷ 255 ∷ []); said = packet (0x01 ∷ 0x09 ∷ 0x08 ∷ 0x99 ∷ 0x01 ∷ 0xAA ∷ []) ∷ packet (0x01 ∷ 0x09 ∷ 0x08 ∷ 0x69 ∷ 0xBB ∷ 0xCC ∷ []) ∷ [] }
 
--- empty payload
+-- send nothing
 abbrev pub cutNothing : Row
 cutNothing = record { given = sent 255 Own [] (255 ∷ 255 ∷ []); said = packet (0x01 ∷ 0x09 ∷ 0x08 ∷ 0xD9 ∷ 0x01 ∷ []) ∷ [] }
 
--- stack MTU 300, send MTU 4 refused, 5 taken, 255 taken, 256 refused
+-- with a stack MTU of 300, sends with MTU 4 and 256 are refused, and those with 5 and 255 are taken
 abbrev pub mtus : Row
 mtus = record { given = tried 300 4 ++ (tried 300 5 ++ (tried 300 255 ++ tried 300 256)); said = refused 3 ∷ taken ∷ taken ∷ refused 3 ∷ [] }
 
--- buffer 4 on the first step: NoSpace; 5: taken
+-- a buffer of 4 bytes on the first step is NoSpace, one of 5 is taken
 abbrev pub buffers : Row
 buffers = record { given = firstStep 4 ++ firstStep 5; said = refused 2 ∷ taken ∷ [] }
 
--- eight fresh tags to peer 9; the ninth: TagUnavailable; then peer 10
+-- eight fresh tags to peer 9, the ninth is TagUnavailable; then one to peer 10
 abbrev pub freshTags : Row
 freshTags = record { given = tags (9 ∷ 9 ∷ 9 ∷ 9 ∷ 9 ∷ 9 ∷ 9 ∷ 9 ∷ 9 ∷ 10 ∷ []) (bay 255 .stack); said = tag 1 ∷ tag 2 ∷ tag 3 ∷ tag 4 ∷ tag 5 ∷ tag 6 ∷ tag 7 ∷ tag 0 ∷ refused 4 ∷ tag 2 ∷ [] }
 
--- body 1,032 handed out
+-- a body of 1,032 bytes is handed out
 abbrev pub longest : Row
 longest = record { given = got (whole 1032) (bay 255); said = message 9 1 (replicate 1032 7) ∷ empty false ∷ [] }
 
--- 1,033 is NoSpace, slot empty
+-- one of 1,033 is NoSpace, and the slot is empty
 abbrev pub tooLong : Row
 tooLong = record { given = got (whole 1033) (bay 255); said = refused 2 ∷ empty true ∷ [] }
 
--- SOM at 0, update 6,000, update 6,001
+-- SOM at clock 0, then update 6,000 and update 6,001
 abbrev pub expiry : Row
 expiry = record { given = updates (6000 ∷ 6001 ∷ []) (step 1032 (receive opener) (bay 255)); said = checked 0 false ∷ checked 100 true ∷ [] }
 
--- update 1,000 on an idle stack; 1,040
+-- update 1,000 on an idle stack, then update 1,040
 abbrev pub idle : Row
 idle = record { given = updates (1000 ∷ 1040 ∷ []) (bay 255); said = checked 100 false ∷ checked 60 false ∷ [] }
 
@@ -170,8 +170,8 @@ joinOne = record { given = got (0x01 ∷ 0x08 ∷ 0x09 ∷ 0xC9 ∷ 0x01 ∷ 0x2
 abbrev pub table : List Row
 table = cutOnce ∷ cutTwice ∷ cutNothing ∷ mtus ∷ buffers ∷ freshTags ∷ longest ∷ tooLong ∷ expiry ∷ idle ∷ joinOne ∷ []
 
--- no figure, but docs/RULES.md 47: four lost in a row, mid-message, are not seen. Of a message in six packets the first comes and then the sixth,
--- which has the number that the second had: it is taken, and what came is handed out
+-- docs/RULES.md 47: four packets lost in a row in mid-message are not noticed. Of a message in six packets the first comes and then the sixth, which has the
+-- number that the second had: it is taken, and what came is handed out
 abbrev pub fourLost : Row
 fourLost = record { given = got (0x01 ∷ 0x08 ∷ 0x09 ∷ 0x59 ∷ 0xFF ∷ []) (step 1032 (receive opener) (bay 255)); said = message 9 1 (0x2A ∷ 0xFF ∷ []) ∷ empty false ∷ [] }
 

@@ -1,5 +1,5 @@
 -- What was taken: the packets that a stack answered with "more" or a message, newest first.
--- And what of them belongs to a key since its newest opening packet.
+-- And which of them belong to a key since its newest opening packet.
 -- Leans on `Calls`, and on `mctp` for headers and keys.
 use Prim.Native.Nat.{ℕ, _+_, _%_}
 use mathlib.Core.Path.{_≡_}
@@ -65,7 +65,7 @@ unfoldable pub history : ℕ → List Call → World → List Taken → List Tak
 history B [] w H = H
 history B (c ∷ cs) w H = history B cs (step B c w) (logged B c w H)
 
--- every receive is lent the pool that we watch
+-- whether a call, if it is a receive, is lent the pool that we watch
 abbrev pub lentHere : Call → Bool
 lentHere (receive p) = true
 lentHere (elsewhere n p) = false
@@ -93,12 +93,12 @@ unfoldable pub gathered : List Taken → List ℕ
 gathered [] = []
 gathered (t ∷ l) = bodyIn (t .packet) ++ gathered l
 
--- after one numbered n: none opens, and each is numbered one more modulo four than the one before
+-- whether these may follow a packet numbered n: none opens a message, and each is numbered one more modulo 4 than the one before
 unfoldable pub follows : ℕ → List Taken → Bool
 follows n [] = true
 follows n (t ∷ l) = not (t .header .som) && (eqb (t .header .seq) ((n + 1) % 4) && follows (t .header .seq) l)
 
--- an opening packet, and then those that follow it, numbered in turn
+-- whether they are an opening packet and then those that follow it, numbered in turn
 unfoldable pub numbered : List Taken → Bool
 numbered [] = false
 numbered (t ∷ l) = t .header .som && follows (t .header .seq) l

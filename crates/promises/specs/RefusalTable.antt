@@ -60,7 +60,7 @@ unfoldable pub opens : List ℕ → World → World
 opens [] w = w
 opens (flags ∷ l) w = opens l (step 1032 (receive (0x01 ∷ 0x08 ∷ 0x09 ∷ flags ∷ 0x01 ∷ [])) w)
 
--- one slot collects; each of the four does
+-- a stack in which one slot collects, and one in which all four do
 abbrev pub begunBay : World
 begunBay = opens (0x89 ∷ []) (bay 255)
 
@@ -178,7 +178,7 @@ sendWays = record {
 abbrev pub ways : List Row
 ways = receiveWays ∷ sendWays ∷ []
 
--- in every row each number is given, one world for each
+-- in every row each number is given in its world
 abbrev pub Met : List Row → Type 0
 Met [] = Unit
 Met (r ∷ l) = (map answered (r .tried) ≡ map said (r .numbers)) × Met l

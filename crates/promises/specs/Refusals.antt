@@ -36,7 +36,7 @@ use Rattle.handles.specs.Handles.{isGood}
 use Rattle.estack.specs.Basics.{freeTagsOf}
 use Rattle.promises.specs.Calls.{Call, receive, elsewhere, update, startSend, cancelFlow, getDeferred, getDeferredByCookie, fetchMessage, finishedReceive, returnHandle, setCookie, setEid, eid, isLocalDest, freeTags, World}
 
--- n is one of these
+-- whether n is one of these
 abbrev pub isOne : ℕ → List ℕ → Bool
 isOne n [] = false
 isOne n (m ∷ l) = eqb n m || isOne n l
@@ -71,7 +71,7 @@ pub record Unstepped (f : Fragmenter) (s : Step) (n : ℕ) (vs : List ℕ) : Typ
   pub next : s .result .next ≡ f
   pub bytes : s .bytes ≡ []
 
--- the calls whose refusals leave all as it was; those that refuse nothing are among them
+-- whether the refusals of a call leave all as it was; this is so for a call that refuses nothing
 abbrev pub still : Call → Bool
 still (receive p) = false
 still (elsewhere n p) = false
@@ -100,18 +100,19 @@ abbrev pub asked : HeaderRead → Stack → ℕ
 asked Bad st = 1
 asked (Good h) st = pick (opening (st .head .«own_eid») h) (pick (h .key .owner) 0 (pick (standing (h .key .source) (h .key .tag) (st .flows)) 0 5)) 1
 
--- n bytes more, in a slot that holds l, are more than a body has
+-- 2 where n more bytes are too many for a slot that holds l already, else 0
 abbrev pub overlong : ℕ → ℕ → ℕ → ℕ
 overlong B l n = pick (ltb B (l + n)) 2 0
 
--- rules 45, 47 and 48, why a packet that has its slot is dropped: SOM with 4 bytes only, or a wrong sequence: 1; a body above B: 2; 0 where it is taken
+-- rules 45, 47 and 48, why a packet that has its slot is dropped: 1 for SOM with 4 bytes only or for a wrong sequence, 2 for a body above B, and 0 where it is
+-- taken
 abbrev pub dropped : ℕ → HeaderRead → List ℕ → Reassembler → ℕ
 dropped B Bad p s = 0
 dropped B (Good h) p s =
     pick (h .som) (pick (ltb (length p) 5) 1 (overlong B 0 (length p - 5)))
     (pick (eqb (h .seq) (s .«next_seq»)) (overlong B (s .len) (length p - 4)) 1)
 
--- the first of two reasons
+-- the first of two refusals, or 0 where there is none
 abbrev pub firstOf : ℕ → ℕ → ℕ
 firstOf n m = pick (eqb n 0) m n
 
@@ -119,28 +120,28 @@ firstOf n m = pick (eqb n 0) m n
 abbrev pub slotNo : ℕ → Stack → List ℕ → HeaderRead → ℕ → ℕ
 slotNo B st p r i = pick (isEmpty (slotAt i st)) (firstOf (asked r st) (dropped B r p (slotAt i st))) (dropped B r p (slotAt i st))
 
--- what a packet is answered: 6, 2, or by its slot
+-- what a packet is answered: 6 for the pool, 2 for want of a slot, or what its slot says
 abbrev pub receiveNo : ℕ → Stack → ℕ → List ℕ → ℕ
 receiveNo B st room p =
     pick (ltb room (B * length (st .slots))) 6 (pick (ltb (placeOf p st) (length (st .slots))) (slotNo B st p (headerOf p) (placeOf p st)) 2)
 
 -- a packet p of header r, for which the search found slot i of the stack st, is refused with n by a stack that is then st′
 pub data Left (B : ℕ) (st : Stack) (room : ℕ) (p : List ℕ) (r : HeaderRead) (i n : ℕ) (st′ : Stack) : Type 0 where
-  -- the pool is too short: all as it was
+  -- the pool is too short: all stays as it was
   pool-short : room < B * length (st .slots) → n ≡ 6 → st′ ≡ st → Left B st room p r i n st′
-  -- no slot: all as it was
+  -- there is no slot: all stays as it was
   no-slot : B * length (st .slots) ≤ room → length (st .slots) ≤ i → n ≡ 2 → st′ ≡ st → Left B st room p r i n st′
-  -- an empty slot that the packet does not open, 1 or 5: one event
+  -- an empty slot that the packet does not open, with 1 or 5: one event counts
   shut-out : B * length (st .slots) ≤ room → i < length (st .slots) → isEmpty (slotAt i st) ≡ true → asked r st ≡ n → isOne n (1 ∷ 5 ∷ []) ≡ true
       → st′ ≡ ticked st → Left B st room p r i n st′
-  -- an empty slot that the packet opens, 1 or 2: two events, and the slot is empty
+  -- an empty slot that the packet opens, with 1 or 2: two events count, and the slot is empty again
   not-begun : B * length (st .slots) ≤ room → i < length (st .slots) → isEmpty (slotAt i st) ≡ true → asked r st ≡ 0
       → dropped B r p (slotAt i st) ≡ n → isOne n (1 ∷ 2 ∷ []) ≡ true → st′ ≡ withSlot i blankSlot (ticked (ticked st)) → Left B st room p r i n st′
-  -- a slot that collects, 1 or 2: one event, and the slot is freed
+  -- a slot that collects, with 1 or 2: one event counts, and the slot is freed
   broken-off : B * length (st .slots) ≤ room → i < length (st .slots) → isEmpty (slotAt i st) ≡ false
       → dropped B r p (slotAt i st) ≡ n → isOne n (1 ∷ 2 ∷ []) ≡ true → st′ ≡ withSlot i blankSlot (ticked st) → Left B st room p r i n st′
 
--- the flows are as they were, and every slot but slot i
+-- the flows are as they were, and so is every slot but slot i
 pub record Spared (st : Stack) (i : ℕ) (st′ : Stack) : Type 0 where
   pub flows : st′ .flows ≡ st .flows
   pub slots : (k : ℕ) → k ≢ i → slotAt k st′ ≡ slotAt k st
@@ -161,45 +162,45 @@ tagAfter (Unowned tag) n = n
 abbrev pub untagged : SendTag → Bool → Head → Head
 untagged tag event h = withNextTag (tagAfter tag (h .«next_tag»)) (withNow (counted event (h .now)) h)
 
--- no place of the table is free
+-- 4 where no place of the table is free, else 0
 abbrev pub fullNo : Stack → ℕ
 fullNo st = pick (ltb (find isFree (st .flows)) (length (st .flows))) 0 4
 
--- for an owned tag, why there is no flow: none is free, or the table is full: 4; it stands with an expiry: 3
+-- why an owned tag gets no flow: 4 where no tag is free or the table is full, 3 where its flow stands with an expiry, else 0
 abbrev pub flowNo : Eid → SendTag → Stack → ℕ
 flowNo peer Fresh st = pick (ltb 0 (freeTagsOf peer st)) (fullNo st) 4
 flowNo peer (Owned tag) st =
     pick (standing peer tag (st .flows)) (pick (lasts (getD (st .flows) (flowPlace peer tag (st .flows)) noFlow)) 0 3) (fullNo st)
 flowNo peer (Unowned tag) st = 0
 
--- an MTU outside 5 to 255
+-- 3 for an MTU outside 5 to 255, else 0
 abbrev pub mtuNo : ℕ → ℕ
 mtuNo mtu = pick (ltb mtu minMtu) 3 (pick (ltb maxMtu mtu) 3 0)
 
--- what a send is answered: type above 127 or tag above 7: 1; else by its flow, and then by its MTU
+-- what a send is answered: 1 for a type above 127 or a tag above 7; otherwise its flow decides, and then its MTU
 abbrev pub sendNo : Send → Stack → ℕ
 sendNo q st =
     pick (ltb 127 (q .typ .0)) 1 (pick (badTag (q .tag)) 1 (firstOf (flowNo (q .dest) (q .tag) st) (mtuNo (mtuOf (q .mtu) (st .head .mtu)))))
 
 -- a send is refused with n by the stack st, which is then st′
 pub data Unsent (q : Send) (st : Stack) (n : ℕ) (st′ : Stack) : Type 0 where
-  -- type above 127 or tag above 7: all as it was
+  -- a type above 127 or a tag above 7: all stays as it was
   invalid : (127 < q .typ .0) ⊎ (badTag (q .tag) ≡ true) → n ≡ 1 → st′ ≡ st → Unsent q st n st′
-  -- a fixed owned tag that stands with an expiry: all as it was
+  -- a fixed owned tag whose flow stands with an expiry: all stays as it was
   expiring : (tag : TagValue) → q .tag ≡ Owned tag → standing (q .dest) tag (st .flows) ≡ true
       → lasts (getD (st .flows) (flowPlace (q .dest) tag (st .flows)) noFlow) ≡ false → n ≡ 3 → st′ ≡ st → Unsent q st n st′
-  -- a fresh tag, and none is free for the peer: the tag counter has turned, no event counts
+  -- a fresh tag, and none is free for the peer: the tag counter has turned, and no event counts
   none-free : q .tag ≡ Fresh → freeTagsOf (q .dest) st ≡ 0 → n ≡ 4 → st′ ≡ withHead (untagged (q .tag) false (st .head)) st → Unsent q st n st′
   -- the table is full: the event of a flow that expires counts all the same
   table-full : (q .tag ≡ Fresh → 0 < freeTagsOf (q .dest) st) → find isFree (st .flows) ≡ length (st .flows) → n ≡ 4
       → st′ ≡ withHead (untagged (q .tag) (q .expires) (st .head)) st → Unsent q st n st′
-  -- an MTU outside 5 to 255: the stack that the same send with an MTU of 5 leaves, flow and sequence as they now are
+  -- an MTU outside 5 to 255: it leaves the stack that the same send with an MTU of 5 leaves, with flow and sequence as they now are
   bad-mtu : (mtuOf (q .mtu) (st .head .mtu) < minMtu) ⊎ (maxMtu < mtuOf (q .mtu) (st .head .mtu)) → n ≡ 3
       → st′ ≡ startSendOf (withMtu (AtMost 5) q) st .stack → Unsent q st n st′
 
 -- ---- what a refused cancel leaves
 
--- a reply of that peer and tag whose handle is out
+-- whether it is a reply of that peer and tag whose handle is out
 abbrev pub stops : Eid → TagValue → Reassembler → Bool
 stops peer tag s = isReply peer tag s && handleTaken s
 
@@ -207,15 +208,15 @@ stops peer tag s = isReply peer tag s && handleTaken s
 abbrev pub sweptAt : Eid → TagValue → List Reassembler → ℕ → Reassembler
 sweptAt peer tag l k = pick (ltb k (find (stops peer tag) l) && isReply peer tag (getD l k blankSlot)) blankSlot (getD l k blankSlot)
 
--- what a cancel is answered: a tag above 7: 1; a handle out: 3
+-- what a cancel is answered: 1 for a tag above 7, 3 where a handle is out, else 0
 abbrev pub cancelNo : Eid → TagValue → Stack → ℕ
 cancelNo peer tag st = pick (ltb 7 (tag .0)) 1 (pick (ltb (find (stops peer tag) (st .slots)) (length (st .slots))) 3 0)
 
 -- a cancel is refused with n by the stack st, which is then st′
 pub data Uncancelled (peer : Eid) (tag : TagValue) (st : Stack) (n : ℕ) (st′ : Stack) : Type 0 where
-  -- a tag above 7: all as it was
+  -- a tag above 7: all stays as it was
   bad-tag : 7 < tag .0 → n ≡ 1 → st′ ≡ st → Uncancelled peer tag st n st′
-  -- a handle is out: head and flows as they were
+  -- a handle is out: head and flows stay as they were
   under-handle : tag .0 ≤ 7 → find (stops peer tag) (st .slots) < length (st .slots) → n ≡ 3 → st′ .head ≡ st .head → st′ .flows ≡ st .flows
       → length (st′ .slots) ≡ length (st .slots) → ((k : ℕ) → slotAt k st′ ≡ sweptAt peer tag (st .slots) k) → Uncancelled peer tag st n st′
 

@@ -1,5 +1,5 @@
 -- The count of the handles that have gone out, which the theorem that a stale handle stays stale asks about.
--- It goes on as long as it has not come to 2^64 - 1: there it stays, and the last number goes out again.
+-- It goes up until it comes to 2^64 - 1; there it stays, and the last number goes out again.
 -- Leans on `state` for the stack.
 use Prim.Native.Nat.{_<_}
 use Rattle.state.specs.Stack.{Stack}

@@ -1,5 +1,5 @@
--- Whatever a receive hands out was carried: the packets taken under its key since the newest countedOpening one are a message in packets as DSP0236 has it, SOM on
--- the first alone and EOM on the last alone. For a slot that collects has met no EOM since it was opened.
+-- Whatever a receive hands out was carried: the packets taken under its key since the newest opening one are a message in packets as DSP0236 has it, with SOM
+-- on the first alone and EOM on the last alone. For a slot that collects has met no EOM since it was opened.
 use Prim.Native.Nat.{ℕ, _+_, _*_, _%_, _≤_}
 use native.Mathlib.Nat.{le-refl, le-trans, le-max-left, le-max-right}
 use native.Mathlib.Decide.{ℕ-discrete}
@@ -110,12 +110,12 @@ module _ (P : Taken → Type 0) where
   each-snoc [] t a x = (x, tt)
   each-snoc (y ∷ l) t a x = (a .0, each-snoc l t (a .1) x)
 
--- a packet as it was read, whole
+-- a packet that was read, and is whole
 record Read (t : Taken) : Type 0 where
   pub header : headerOf (t .packet) ≡ Good (t .header)
   pub whole : lead (t .header .som) ≤ length (t .packet)
 
--- and of that key
+-- and has that key
 record Of (K : Key) (t : Taken) : Type 0 where
   pub read : Read t
   pub key : t .header .key ≡ K
@@ -167,7 +167,7 @@ history-read B (c ∷ cs) w H a = history-read B cs (step B c w) (logged B c w H
 abbrev unended : Taken → Bool
 unended t = not (t .header .eom)
 
--- of a slot that collects under K, none of the packets since the newest countedOpening one had EOM
+-- where a slot collects under K, none of the packets since the newest opening one had EOM
 record Going (H : List Taken) (l : List Reassembler) : Type 0 where
   pub none : (i : ℕ) (K : Key) → collects K (getD l i blankSlot) ≡ true → allOf unended (since K H) ≡ true
 
@@ -343,8 +343,9 @@ module _ (B : ℕ) (w₀ : World) (empty : allOf isEmpty (w₀ .stack .slots) �
       closes B (history B cs w₀ []) w inv going p true (receipt B p w) (receive-outcome B (w .stack) p (length (w .pool)))
       h (as-told (receipt B p w .said) h said) K k
 
--- from a stack with no slot taken and a full pool, after any calls at all: whenever a packet hands out a message m, the packets taken under its key since the
--- newest countedOpening one carry a message of that key, type and IC, whatever MTU they fit: SOM on the first alone, EOM on the last alone, numbered in turn
+-- from a stack with no slot taken and a pool that is long enough, after any calls at all: whenever a packet hands out a message m, the packets taken under its
+-- key since the newest opening one carry a message of that key, type and IC, whatever MTU they fit: SOM on the first alone, EOM on the last alone, numbered in
+-- turn
 pub told-carries : (B : ℕ) (w₀ : World) → allOf isEmpty (w₀ .stack .slots) ≡ true → B * length (w₀ .stack .slots) ≤ length (w₀ .pool)
     → (cs : List Call) (p : List ℕ) (h : ReceiveHandle) → performed B (receive p) (steps B cs w₀) ≡ gives (handleWords h)
     → let m = messageAt B (h .index) (step B (receive p) (steps B cs w₀)) in

@@ -55,7 +55,7 @@ use Rattle.staying.specs.Staying.{sameHandle, names, tellsOf, checksAt, 
 
 -- ---- what a call looks at
 
--- a slot whose handle is out has no time
+-- no time runs for a slot whose handle is out
 timed-in : (f : State) (t : Timeout) → isExpired (timeIn f t) ≡ true → outState f ≡ false
 timed-in Empty t e = refl
 timed-in Collecting t e = refl
@@ -71,7 +71,7 @@ done-in s d = go (s .state) d
     go Done e = refl
     go (HandleOut n) e = absurd (no-true e)
 
--- where a packet lands no handle is out and nothing is done
+-- the slot where a packet lands has no handle out, and is not done
 pub lands-open : (l : List Reassembler) (i : ℕ) (h : Header) → Source l i h → (isDone (getD l i blankSlot) ≡ false) × (handleTaken (getD l i blankSlot) ≡ false)
 lands-open l i h (collected d) = (not-in (h .key) (getD l i blankSlot) d doneState refl, not-in (h .key) (getD l i blankSlot) d outState refl)
 lands-open l i h (opens v y f) = empty (getD l i blankSlot .state) v
@@ -186,7 +186,7 @@ update-fates B t st =
 
 -- ---- by a cancel
 
--- a cancel's walk: a slot stays, or it is freed, being a reply that the walk comes to
+-- a cancel's walk: a slot stays, or it is a reply that the walk comes to, and is freed
 data Walked (peer : Eid) (tag : TagValue) (l : List Reassembler) (k : ℕ) (s′ : Reassembler) : Type 0 where
   passed : s′ ≡ getD l k blankSlot → Walked peer tag l k s′
   freed : s′ ≡ blankSlot → handleTaken (getD l k blankSlot) ≡ false → isReply peer tag (getD l k blankSlot) ≡ true → blocked peer tag (take k l) ≡ false

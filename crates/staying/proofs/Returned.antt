@@ -1,5 +1,5 @@
--- A message that was put back, its handle not out, stays as it is until a call ends it: a check of time that finds it expired, a cancel of its peer and tag
--- that comes to it, a lookup that takes it (`ends`). Each of these does end it; and a lookup hands over that same message under a handle of its own.
+-- A message that was put back, with its handle not out, stays as it is until a call ends it: a check of time that finds it expired, a cancel of its peer and
+-- tag that comes to it, or a lookup that takes it (`ends`). Each of these does end it, and a lookup hands over that same message under a handle of its own.
 use Prim.Native.Nat.{ℕ, zero, suc, _+_, _*_, _≤_}
 use native.Mathlib.Omega.{arith}
 use mathlib.Core.Path.{_≡_, refl, sym, ap, subst, _∙_}
@@ -96,7 +96,7 @@ update-ends i t st e =
     rw (a, b) (getD-mapped (fadedSlot t) (st .slots) i blankSlot (faded-blank t) ∙ rw x)
 
 module _ (peer : Eid) (tag : TagValue) where
-  -- a reply that the walk comes to, its handle not out, is freed
+  -- a reply that the walk comes to, with its handle not out, is freed
   swept-frees : (l : List Reassembler) (k : ℕ) → isReply peer tag (getD l k blankSlot) ≡ true → handleTaken (getD l k blankSlot) ≡ false
       → blocked peer tag (take k l) ≡ false → getD (swept peer tag l) k blankSlot ≡ blankSlot
   unfolding swept blocked pick
@@ -171,8 +171,8 @@ done-hold B i n l (c ∷ cs) w d ok =
     joined B i n w (step B c w) (steps B cs (step B c w)) one
     (done-hold B i n l cs (step B c w) (ap isDone (one .slot) ∙ d) (and-right (not (ends i c (w .stack))) (untouched B i cs (step B c w)) ok))
 
--- a message with no handle out, in slot i: whatever calls come, none of which ends it where it comes (a check of time that finds it expired, a cancel of its
--- peer and tag that comes to it, a lookup that takes it), it is still there with no handle out, and it is the same
+-- a message with no handle out, in slot i: whatever calls come, if none of them ends it (a check of time that finds it expired, a cancel of its peer and tag
+-- that comes to it, a lookup that takes it), it is still there with no handle out, and it is the same
 pub returned-stays : (B i : ℕ) (calls : List Call) (w : World)
     → isDone (slotAt i (w .stack)) ≡ true → slotAt i (w .stack) .len ≤ B → untouched B i calls w ≡ true
     → (isDone (slotAt i (steps B calls w .stack)) ≡ true) × (messageAt B i (steps B calls w) ≡ messageAt B i w)
@@ -180,7 +180,7 @@ returned-stays B i calls w d l ok =
     let k = done-hold B i (slotAt i (w .stack) .len) l calls w d ok in
     (ap isDone (k .slot) ∙ d, message-by B i w (steps B calls w) k)
 
--- in every state that a call accepts (`Kept`) bodies are short: so nothing but that is asked there
+-- in every state that a call accepts (`Kept`) no body is longer than its slot's part, so nothing but `Kept` is asked
 pub kept-returned : (z : Sizes) (b : List ℕ) → Kept z b → (pool : List ℕ) (i : ℕ) (calls : List Call)
     → let w : World = record { stack = stackOf z b; pool = pool } in
     isDone (slotAt i (w .stack)) ≡ true → untouched (z .body) i calls w ≡ true
@@ -335,8 +335,8 @@ comes-back B h k calls c w g l room ok e at =
     subst (λ (m : Message). Fetches B k m (step B c (steps B calls w₁))) (q .message)
     (returned-found B (h .index) calls c k w₁ (room-stays B (returnHandle h ∷ []) w room) (q .done) (rw (q .len) l) ok e at)
 
--- the whole way: a receive hands out m; calls come that spare its handle; it is put back; calls come that do not end it; a lookup takes it: the handle k that
--- it tells fetches m. Of the world nothing is asked
+-- the whole way: a receive hands out m, calls come that spare its handle, it is put back, calls come that do not end it, and a lookup takes it. Then the handle
+-- k that the lookup tells fetches m. Nothing is asked of the world
 pub handed-back : (B : ℕ) (m : Message) (p : List ℕ) (w : World) (d : Hands B m p w) (before after : List Call) (c : Call) (k : ReceiveHandle)
     → let w₁ = step B (returnHandle (d .handle)) (steps B before (step B (receive p) w)) in
     allOf (spares (d .handle)) before ≡ true → untouched B (d .handle .index) after w₁ ≡ true → tells c (steps B after w₁ .stack) ≡ Found k

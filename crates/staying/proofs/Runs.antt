@@ -61,7 +61,7 @@ held = steps 1032 (receive one ∷ []) start
 
 -- ---- a message whose handle is out
 
--- a hundred seconds pass, another message comes, lookups ask for it, a cancel, and calls under other handles
+-- a hundred seconds pass, another message comes, lookups and a cancel ask for it, and calls come under other handles
 abbrev much : List Call
 much =
     update 100000 ∷ receive other ∷ elsewhere 5000 one ∷ getDeferred (record { 0 = 9 }) (Owned (record { 0 = 1 })) ∷ getDeferredByCookie (7 ∷ []) ∷ cancelFlow (record { 0 = 9 }) (record { 0 = 1 })
@@ -99,7 +99,7 @@ unfolding isLocal find pick steps step next receiveOf receiveBy receiveAt header
     untouched handled updateOf checked clocked expired timeoutOf fadedFlow fadedSlot leastLeft bySourceOf takeOf earliest keptUnder
 back-stays = returned-stays 1032 0 while back refl (lit≤ tt) refl
 
--- so it is, too, since no call of these seeks it
+-- the same follows, too, since none of these calls seeks it
 pub back-waits : (isDone (slotAt 0 (steps 1032 while back .stack)) ≡ true) × (messageAt 1032 0 (steps 1032 while back) ≡ messageAt 1032 0 back)
 unfolding isLocal find pick steps step next receiveOf receiveBy receiveAt headerOf slotFor gate gateEmpty gateReply opening land enter append nextIssue sameKey sameBool over isGood handled keptUnder
 back-waits = fresh-returned 1032 (record { slots = 4; body = 1032 }) (record { 0 = 8 }) 64 0 (replicate 4128 0) (receive one ∷ returnHandle first ∷ []) 0 while refl refl
@@ -132,7 +132,7 @@ pub query-stands : standing (record { 0 = 9 }) (record { 0 = 1 }) (asked .stack 
 unfolding isLocal find pick steps step startSendOf sendAs tagFor ownedTag setFlow freshFlow withTag insertFlow newFlow freeTagOf bitsOf isFlow next
 query-stands = refl
 
--- and a cancel: no flow stands for it
+-- after a cancel no flow stands for it
 pub query-cleared : standing (record { 0 = 9 }) (record { 0 = 1 }) (step 1032 (cancelFlow (record { 0 = 9 }) (record { 0 = 1 })) asked .stack .flows) ≡ false
 unfolding isLocal find pick steps step startSendOf sendAs tagFor ownedTag setFlow freshFlow withTag insertFlow newFlow freeTagOf bitsOf isFlow next cancelOf swept blocked isReply
 query-cleared =
@@ -150,7 +150,7 @@ answered = record {
   seq = 0;
 }
 
--- the reply is handed out: no flow stands for it
+-- after the reply is handed out no flow stands for it
 pub query-answered : standing (record { 0 = 9 }) (record { 0 = 1 }) (step 1032 (receive reply) asked .stack .flows) ≡ false
 unfolding isLocal find pick steps step startSendOf sendAs tagFor ownedTag setFlow freshFlow withTag insertFlow newFlow freeTagOf bitsOf isFlow next
     receiveOf receiveBy receiveAt headerOf slotFor gate gateEmpty gateReply opening land enter append nextIssue sameKey sameBool over

@@ -1,5 +1,5 @@
--- The flows of a stack: after any calls from a new one, at most one place for each peer and tag. So a flow that is removed is gone: after a cancel that
--- succeeds none stands for that peer and tag, and after a receive that hands out a reply none for its source and tag.
+-- The flows of a stack: after any calls from a new one, each peer and tag has at most one place. So a flow that is removed is gone: after a cancel that
+-- succeeds none stands for that peer and tag, and after a receive that hands out a reply none stands for its source and tag.
 use Prim.Native.Nat.{ℕ, zero, suc, _≤_}
 use native.Mathlib.Omega.{arith}
 use mathlib.Core.Path.{_≡_, refl, sym, ap, subst, _∙_}
@@ -194,7 +194,7 @@ unique-step B eid w u = u
 unique-step B (isLocalDest p) w u = u
 unique-step B (freeTags peer) w u = u
 
--- whatever calls come, each peer and tag has at most one flow, where it had at most one
+-- whatever calls come, each peer and tag has at most one flow if it had at most one before
 pub unique-stays : (B : ℕ) (calls : List Call) (w : World) → Unique (w .stack .flows) → Unique (steps B calls w .stack .flows)
 unfolding steps
 unique-stays B [] w u = u
@@ -269,7 +269,7 @@ pub reply-gone : (B : ℕ) (st : Stack) (room : ℕ) (p : List ℕ) (h : Receive
     → receiveOf B st room p .said ≡ Told h → standing (g .key .source) (g .key .tag) (receiveOf B st room p .stack .flows) ≡ false
 reply-gone B st room p h g u read o e = flowing-gone (st .flows) p (receiveOf B st room p) u g read o (ap hands e) (receive-flowing B p st room)
 
--- both after any calls from a new stack, in what is answered: nothing is left to ask
+-- both, after any calls from a new stack, by what is answered, with no further premise
 module _ (B : ℕ) (z : Sizes) (own : Eid) (mtu clock : ℕ) (pool : List ℕ) (calls : List Call) where
   abbrev reached : World
   reached = steps B calls (record { stack = freshStack z own mtu clock; pool = pool })

@@ -1,5 +1,5 @@
 -- A message whose handle is out stays as it is, and its handle good, whatever calls come but a finish, a return or a set cookie under that very handle.
--- No clock ends it: its slot has no time. And no body grows past its slot's part.
+-- No clock ends it, since no time runs for its slot. And no body grows past its slot's part of the pool.
 use Prim.Native.Nat.{ℕ, zero, suc, _+_, _*_, _≤_}
 use native.Mathlib.Omega.{arith}
 use mathlib.Core.Path.{_≡_, refl, sym, ap, subst, _∙_}
@@ -54,7 +54,7 @@ out-of m Collecting e = absurd (no-true e)
 out-of m Done e = absurd (no-true e)
 out-of m (HandleOut n) e = ap HandleOut (eqb-true n m e)
 
--- two handles that are out in one slot are one
+-- two handles that are out in the same slot are the same
 one-handle : (h k : ReceiveHandle) (s : Reassembler) → k .index ≡ h .index → handleIs (h .issue) s ≡ true → handleIs (k .issue) s ≡ true → k ≡ h
 one-handle h k s i a b =
     let e : HandleOut (k .issue) ≡ HandleOut (h .issue) = sym (out-of (k .issue) (s .state) b) ∙ out-of (h .issue) (s .state) a in
@@ -123,7 +123,7 @@ message-stays B h calls w g l ok =
 
 -- ---- a fetch
 
--- what a fetch isGiven is the message of a good handle, the pool being long enough
+-- what a fetch gives is the message of a good handle, and the pool is long enough
 pub record Fetched (B : ℕ) (h : ReceiveHandle) (st : Stack) (room : ℕ) (f : Facts) : Type 0 where
   pub good : isGood h st ≡ true
   pub long : B * length (st .slots) ≤ room
@@ -180,7 +180,7 @@ held-stays B h m calls w k ok =
       message = s .1 ∙ k .message;
     }
 
--- what a fetch gives under a handle it gives still, with the same bytes in the pool, whatever calls come but those three
+-- what a fetch gives under a handle it still gives, with the same bytes in the pool, whatever calls come but those three
 pub fetch-stays : (B : ℕ) (h : ReceiveHandle) (m : Message) (calls : List Call) (w : World)
     → Fetches B h m w → slotAt (h .index) (w .stack) .len ≤ B → allOf (spares h) calls ≡ true → Fetches B h m (steps B calls w)
 fetch-stays B h m calls w f l ok = held-fetches B h m (steps B calls w) (held-stays B h m calls w (fetches-held B h m w f l) ok)
@@ -221,7 +221,7 @@ fresh-stays B z own mtu clock pool before h calls g ok =
     let w₀ : World = record { stack = freshStack z own mtu clock; pool = pool } in
     message-stays B h calls (steps B before w₀) g (short-stays B before w₀ (fresh-short B z own mtu clock) (h .index)) ok
 
--- in every state that a call accepts (`Kept`, the one premise of every call) bodies are short: so a message whose handle is out in it stays
+-- in every state that a call accepts (`Kept`, the one premise of every call) no body is longer than its slot's part, so a message whose handle is out stays
 pub kept-short : (z : Sizes) (b : List ℕ) → Kept z b → Short (z .body) (stackOf z b)
 kept-short z b ok k = slot-ok z b ok k .len
 
@@ -252,8 +252,8 @@ pub handed-held : (B : ℕ) (m : Message) (p : List ℕ) (w : World) (d : Hands 
 handed-held B m p w d =
     fetches-held B (d .handle) m (step B (receive p) w) (record { facts = d .facts; fetched = d .fetched; message = d .message }) (told-short B p w (d .handle) (d .told))
 
--- a message that a receive has handed out is fetched, whatever calls come, until a finish, a return or a set cookie names its handle. Of the world nothing
--- is asked
+-- a message that a receive has handed out is fetched, whatever calls come, until a finish, a return or a set cookie names its handle. Nothing is asked of the
+-- world
 pub handed-stays : (B : ℕ) (m : Message) (p : List ℕ) (calls : List Call) (w : World) (d : Hands B m p w)
     → allOf (spares (d .handle)) calls ≡ true → Fetches B (d .handle) m (steps B calls (step B (receive p) w))
 handed-stays B m p calls w d ok =

@@ -1,4 +1,5 @@
--- What a receive writes: nothing where it refuses, and else only the packet's body, at the place in its slot's part of the pool where the slot's body ended.
+-- What a receive writes: nothing where it refuses, and otherwise only the packet's body, at the place in its slot's part of the pool where the slot's body
+-- ended.
 -- So what lies past the slots' parts stays, and so does the part of a slot that holds a whole message. A pool that is too short is never written.
 use Prim.Native.Nat.{ℕ, _+_, _*_, _≤_}
 use native.Mathlib.Nat.{le-refl, add-zero}
@@ -148,7 +149,7 @@ whole-stays B j n c w whole l = go (part-stays B j c w)
 
 -- ---- a run of calls
 
--- the slots stay as many as they are, and the pool as long as it is
+-- the number of slots stays, and so does the length of the pool
 slots-count : (B : ℕ) (calls : List Call) (w : World) → length (steps B calls w .stack .slots) ≡ length (w .stack .slots)
 unfolding steps
 slots-count B [] w = refl
@@ -170,7 +171,7 @@ unfolding steps
 pool-tail B [] w = refl
 pool-tail B (c ∷ cs) w = pool-tail B cs (step B c w) ∙ ap (λ (n : ℕ). drop (B * n) (step B c w .pool)) (fates B c w .count) ∙ leaves B c w .tail
 
--- a receive that hands out was lent a pool that is long enough, and so it was before any calls
+-- a receive that hands out was lent a pool that is long enough, and the pool was as long before the calls
 pub told-room : (B : ℕ) (calls : List Call) (w : World) (p : List ℕ) (h : ReceiveHandle) → performed B (receive p) (steps B calls w) ≡ gives (handleWords h)
     → B * length (w .stack .slots) ≤ length (w .pool)
 unfolding receiveOf pick

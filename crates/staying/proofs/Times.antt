@@ -1,5 +1,5 @@
--- No stamp is later than the clock, after any calls from a new stack. So a message with no handle out stays while no call seeks it: no clock more than 6,000
--- ms past its stamp, no cancel of its peer and tag, no lookup by what it is kept under. What the calls find in other slots need not be known.
+-- No stamp is later than the clock, after any calls from a new stack. So a message with no handle out stays while no call seeks it: no clock more than 6,000 ms
+-- past its stamp, no cancel of its peer and tag, no lookup by what it is kept under. It does not matter what the calls find in other slots.
 use Prim.Native.Nat.{ℕ, suc, _+_, _≤_, _<_}
 use native.Mathlib.Nat.{le-refl}
 use native.Mathlib.Omega.{arith}
@@ -123,13 +123,13 @@ run-passes B i s d (c ∷ cs) w e q ok =
     and-both (not (ends i c (w .stack))) (untouched B i cs (step B c w)) (ap not x)
     (run-passes B i s d cs (step B c w) (one ∙ e) (omega (arith, clock-grows B c w)) (and-right (passes s c) (allOf (passes s) cs) ok))
 
--- a message with no handle out, in slot i, its stamp not later than the clock: no call that does not seek it ends it, whatever else the calls do
+-- a message with no handle out, in slot i, with a stamp not later than the clock: a call that does not seek it does not end it, whatever else the calls do
 pub unsought : (B i : ℕ) (calls : List Call) (w : World)
     → isDone (slotAt i (w .stack)) ≡ true → slotAt i (w .stack) .stamp .clock ≤ w .stack .head .now .clock → allOf (passes (slotAt i (w .stack))) calls ≡ true
     → untouched B i calls w ≡ true
 unsought B i calls w d q ok = run-passes B i (slotAt i (w .stack)) d calls w refl q ok
 
--- from a new stack: after any calls a message with no handle out is there still, and the same, whatever calls come that do not seek it
+-- from a new stack: after any calls a message with no handle out is still there, and the same, whatever calls come that do not seek it
 pub fresh-returned : (B : ℕ) (z : Sizes) (own : Eid) (mtu clock : ℕ) (pool : List ℕ) (before : List Call) (i : ℕ) (calls : List Call)
     → let w = steps B before (record { stack = freshStack z own mtu clock; pool = pool }) in
     isDone (slotAt i (w .stack)) ≡ true → allOf (passes (slotAt i (w .stack))) calls ≡ true

@@ -37,11 +37,11 @@ use Rattle.promises.specs.History.{takes}
 
 -- ---- what takes a message whose handle is out
 
--- the same index and number
+-- whether two handles have the same index and number
 abbrev pub sameHandle : ReceiveHandle → ReceiveHandle → Bool
 sameHandle h k = eqb (h .index) (k .index) && eqb (h .issue) (k .issue)
 
--- the call is a finish, a return or a set cookie under that very handle
+-- whether the call is a finish, a return or a set cookie under that very handle
 abbrev pub names : ReceiveHandle → Call → Bool
 names h (receive p) = false
 names h (elsewhere n p) = false
@@ -59,13 +59,13 @@ names h eid = false
 names h (isLocalDest p) = false
 names h (freeTags peer) = false
 
--- any other call at all
+-- whether it is any other call
 abbrev pub spares : ReceiveHandle → Call → Bool
 spares h c = not (names h c)
 
 -- ---- what ends a message with no handle out
 
--- what a lookup tells
+-- what a lookup tells; any other call tells nothing of this kind
 abbrev pub tells : Call → Stack → Deferred
 tells (receive p) st = Nothing
 tells (elsewhere n p) st = Nothing
@@ -83,21 +83,21 @@ tells eid st = Nothing
 tells (isLocalDest p) st = Nothing
 tells (freeTags peer) st = Nothing
 
--- a lookup has told a handle of slot i
+-- whether a lookup has told a handle of slot i
 abbrev pub tellsOf : ℕ → Deferred → Bool
 tellsOf i (Found h) = eqb (h .index) i
 tellsOf i Nothing = false
 
--- an update at the clock t checks the times: t is not below the last clock, and the planned check is due
+-- whether an update at the clock t checks the times: t is not below the last clock, and the planned check is due
 abbrev pub checksAt : ℕ → Stack → Bool
 checksAt t st = not (ltb t (st .head .now .clock)) && not (ltb t (st .head .«next_timeout»))
 
--- a cancel's walk comes to slot i: the tag is at most 7, and no reply of that peer and tag in a slot before it has its handle out
+-- whether a cancel's walk comes to slot i: the tag is at most 7, and no reply of that peer and tag in a slot before it has its handle out
 abbrev pub walksTo : ℕ → Eid → TagValue → Stack → Bool
 walksTo i peer tag st = not (ltb 7 (tag .0)) && not (blocked peer tag (take i (st .slots)))
 
--- the call ends or takes what slot i holds with no handle out: a check of time that finds it expired, a cancel of its peer and tag that comes to it where it
--- is a reply, a lookup that takes it. No other call does
+-- whether the call ends or takes what slot i holds with no handle out: a check of time that finds it expired, a cancel of its peer and tag that comes to it
+-- where it is a reply, a lookup that takes it. No other call does
 abbrev pub ends : ℕ → Call → Stack → Bool
 ends i (receive p) st = false
 ends i (elsewhere n p) st = false
@@ -115,13 +115,13 @@ ends i eid st = false
 ends i (isLocalDest p) st = false
 ends i (freeTags peer) st = false
 
--- no call of a run from w ends it, each where it comes
+-- whether no call of a run from w ends it, each in the state that it meets
 unfoldable pub untouched : ℕ → ℕ → List Call → World → Bool
 untouched B i [] w = true
 untouched B i (c ∷ cs) w = not (ends i c (w .stack)) && untouched B i cs (step B c w)
 
--- the call seeks the message of the slot s, whatever stands in other slots: a clock more than 6,000 ms past its stamp, a cancel of its peer and tag where it
--- is a reply, a lookup by what it is kept under
+-- whether the call seeks the message of the slot s, whatever stands in other slots: a clock more than 6,000 ms past its stamp, a cancel of its peer and tag
+-- where it is a reply, a lookup by what it is kept under
 abbrev pub seeks : Reassembler → Call → Bool
 seeks s (receive p) = false
 seeks s (elsewhere n p) = false
@@ -139,11 +139,11 @@ seeks s eid = false
 seeks s (isLocalDest p) = false
 seeks s (freeTags peer) = false
 
--- any other call at all
+-- whether it is any other call
 abbrev pub passes : Reassembler → Call → Bool
 passes s c = not (seeks s c)
 
--- slot i holds a message with no handle out at every moment of a run of calls from w, the first and the last included
+-- whether slot i holds a message with no handle out at every moment of a run of calls from w, the first and the last included
 unfoldable pub doneThrough : ℕ → ℕ → List Call → World → Bool
 doneThrough B i [] w = isDone (slotAt i (w .stack))
 doneThrough B i (c ∷ cs) w = isDone (slotAt i (w .stack)) && doneThrough B i cs (step B c w)
@@ -160,11 +160,11 @@ pub record Fetches (B : ℕ) (h : ReceiveHandle) (m : Message) (w : World) : Typ
 abbrev pub withCookie : Cookie → Message → Message
 withCookie cookie m = record { key = m .key; typ = m .typ; ic = m .ic; body = m .body; cookie = cookie }
 
--- no slot's stamp is later than the clock: so it is in a new stack, and every call keeps it (`timely-stays`)
+-- no slot's stamp is later than the clock; this holds in a new stack, and every call keeps it (`timely-stays`)
 abbrev pub Timely : Stack → Type 0
 Timely st = (k : ℕ) → slotAt k st .stamp .clock ≤ st .head .now .clock
 
--- every body is as long as a slot's part, or shorter: so it is where nothing was received yet, and every call keeps it (`short-stays`)
+-- no body is longer than a slot's part of the pool; this holds where nothing was received yet, and every call keeps it (`short-stays`)
 abbrev pub Short : ℕ → Stack → Type 0
 Short B st = (k : ℕ) → slotAt k st .len ≤ B
 
@@ -181,7 +181,7 @@ flowsOf peer tag (f ∷ l) = pick (isFlow peer tag f) (suc (flowsOf peer tag l))
 abbrev pub tailOf : ℕ → World → List ℕ
 tailOf B w = drop (B * length (w .stack .slots)) (w .pool)
 
--- how long the body of the slot s is as a packet of that header finds it: SOM empties it
+-- the length of slot s's body before a packet of that header is appended: SOM sets it to 0
 abbrev pub lengthBefore : Header → Reassembler → ℕ
 lengthBefore h s = pick (h .som) 0 (s .len)
 
