@@ -15,19 +15,20 @@
  * A state holds no addresses. Between calls it may be moved or copied to another buffer, or kept over a warm start.
  *
  * Where the premise is broken nothing is promised: a call may answer wrongly, or write outside the buffers that it is lent. Two
- * bytes of a state overwritten are enough to make hyphaloom_receive write outside the pool. hyphaloom_is_kept tells whether
- * bytes are a state. A board that has kept its state over a warm start, or that suspects its memory, asks it before any other
- * call.
+ * overwritten bytes of a state are enough to make hyphaloom_receive write outside the pool. hyphaloom_is_kept tells whether
+ * bytes are a state. A board that has kept its state over a warm start, or that suspects its memory, makes this call before any
+ * other.
  *
  * Byte buffers need no alignment. A pointer whose length is 0 is not followed.
  *
- * ANSWERS. Where a call returns a refusal, 0 is HYPHALOOM_OK. A refusal leaves every buffer and every struct as it was, and
- * the state too, but for what the call's comment names and for the counter that orders events.
+ * ANSWERS. Where a call returns a refusal, 0 is HYPHALOOM_OK. A refusal leaves every buffer and every struct as it was. It
+ * leaves the state as it was too, except for what the call's comment names and for the counter that orders events.
  *
  * NUMBERS. In the structs a yes or no is written 1 or 0, and any number but 0 is read as yes.
  *
  * The calls keep nothing between them but the lent state, so any number of stacks live side by side. One stack is used by one
- * thread at a time. The archive to link is for 64-bit machines, lowest byte first, and needs memset; on riscv64 memcpy too.
+ * thread at a time. The archive to link is for 64-bit machines that store the lowest byte first. It needs memset, and on riscv64
+ * memcpy too.
  */
 #ifndef HYPHALOOM_H
 #define HYPHALOOM_H
@@ -40,24 +41,24 @@
 extern "C" {
 #endif
 
-/* The state buffer, at least. What lies past these bytes is never read or written. */
+/* The least size of the state buffer. What lies past these bytes is never read or written. */
 #define HYPHALOOM_STATE_BYTES 2248
 
 /* Messages that are collected or kept at a time, and the longest body of one. */
 #define HYPHALOOM_SLOTS 4
 #define HYPHALOOM_BODY_BYTES 1032
 
-/* The pool, at least: slot i keeps its body from byte 1,032 i. A longer pool's tail is never read or written. */
+/* The least size of the pool: slot i keeps its body from byte 1,032 i on. A longer pool's tail is never read or written. */
 #define HYPHALOOM_POOL_BYTES 4128
 
 /* Requests that wait for a reply. */
 #define HYPHALOOM_FLOWS 64
 
-/* The packets that a send makes, header included. */
+/* The least and the largest MTU of a send: how long its packets may be, header included. */
 #define HYPHALOOM_MIN_MTU 5
 #define HYPHALOOM_MAX_MTU 255
 
-/* A message, and a flow with expiry, expires when it is older than this. Timeouts are checked at most once in an interval. */
+/* A message, or a flow with expiry, expires when it is older than its timeout. The next check is at most an interval away. */
 #define HYPHALOOM_REASSEMBLY_TIMEOUT_MILLIS 6000
 #define HYPHALOOM_FLOW_TIMEOUT_MILLIS 6000
 #define HYPHALOOM_INTERVAL_MILLIS 100
@@ -77,7 +78,7 @@ enum hyphaloom_refusal {
     HYPHALOOM_POOL_SHORT = 6       /* pool under 4,128 bytes */
 };
 
-/* What a send asks for as its tag. */
+/* Which tag a send asks for. */
 enum hyphaloom_tag_kind {
     HYPHALOOM_TAG_FRESH = 0,  /* a free one, owned; `tag` is not looked at */
     HYPHALOOM_TAG_OWNED = 1,  /* this one, owned: a request */
@@ -90,9 +91,9 @@ struct hyphaloom_send {
     uint64_t typ;
     uint64_t tag_kind;
     uint64_t tag;
-    uint64_t expires; /* whether the flow expires; no matter for a reply */
+    uint64_t expires; /* whether the flow expires; ignored for a reply */
     uint64_t ic;
-    uint64_t has_mtu; /* no: the stack's MTU; yes: the smaller of the two */
+    uint64_t has_mtu; /* 0: the stack's MTU is taken; otherwise the smaller of the two */
     uint64_t mtu;
     uint64_t has_cookie;
     uint64_t cookie;
@@ -150,10 +151,10 @@ uint8_t hyphaloom_new(uint8_t *state, size_t state_len, uint8_t own, size_t mtu,
 
 /*
  * Whether the bytes are a state, so that every call answers on it as its comment says and writes nothing but what it is lent.
- * Any bytes may be asked about; a buffer under 2,248 bytes is no state. Changes nothing.
- * It is no checksum: where overwritten bytes make another state, the answer is yes. What only a stack that has come from
- * hyphaloom_new call by call is sure to have is not looked at: one flow for a peer and tag, no handle out with number 0 or with
- * a number that has yet to go out, no stamp later than the clock. Nor does it tell a warm start from a cold one: bytes that are
+ * Any bytes may be asked about; a buffer under 2,248 bytes is no state. It changes nothing.
+ * It is no checksum: where overwritten bytes make another state, the answer is yes. It does not look at what only a stack that
+ * has come from hyphaloom_new call by call is sure to have: one flow for a peer and tag, no handle out with number 0 or with a
+ * number that has yet to go out, no stamp later than the clock. Nor does it tell a warm start from a cold one: bytes that are
  * all 0 are a state, with own EID 0 and MTU 0, on which no send succeeds.
  * A state kept over a warm start needs its pool, where the bodies lie. Handles that were out are still out, and
  * hyphaloom_update still refuses a clock below the last one.
@@ -193,9 +194,9 @@ uint8_t hyphaloom_fragment(struct hyphaloom_fragmenter *fragmenter, const uint8_
                            size_t out_len, uint64_t *len);
 
 /*
- * Takes the clock, in milliseconds, and tells after how long to call again. If that time of the last call is over, drops what
- * is older than its timeout: messages half in, from their opening packet; whole ones with no handle out, from their closing
- * packet; flows with expiry, from their send.
+ * Takes the clock, in milliseconds, and tells after how long to call again. When the time that the last call told has passed,
+ * and in the first call, it drops what is older than its timeout: incomplete messages, counted from their opening packet; whole
+ * ones with no handle out, from their closing packet; flows with expiry, from their send.
  * INVALID_INPUT: the clock is below the last one.
  */
 uint8_t hyphaloom_update(uint8_t *state, size_t state_len, uint64_t clock, struct hyphaloom_next *next);
@@ -215,18 +216,18 @@ uint8_t hyphaloom_receive(uint8_t *state, size_t state_len, uint8_t *pool, size_
                           size_t packet_len, struct hyphaloom_handle *handle);
 
 /*
- * The earliest message kept from that source under that tag, with `owner` (TO) as given; its handle is now out. Issue 0: there
- * is none. Messages whose handle is out already are passed over. No refusal: a tag above 7 finds none.
+ * Gives out the handle of the earliest message kept from that source under that tag, with `owner` (TO) as given. Issue 0 says
+ * that there is none. Messages whose handle is out already are passed over. It refuses nothing: a tag above 7 finds none.
  */
 void hyphaloom_get_deferred(uint8_t *state, size_t state_len, uint8_t source, uint8_t owner, uint8_t tag,
                             struct hyphaloom_handle *handle);
 
-/* The same by cookie: any one of the list. */
+/* The same for a message whose cookie is one of the list. */
 void hyphaloom_get_deferred_bycookie(uint8_t *state, size_t state_len, const uint64_t *cookies, size_t cookies_len,
                                      struct hyphaloom_handle *handle);
 
 /*
- * The message that a handle names. Changes nothing else.
+ * Tells the message that a handle names, and changes nothing else.
  * POOL_SHORT: pool under 4,128 bytes; tested first. BAD_ARGUMENT: not a handle that is out.
  */
 uint8_t hyphaloom_fetch_message(const uint8_t *state, size_t state_len, const uint8_t *pool, size_t pool_len, size_t index,

@@ -1,4 +1,4 @@
-//! The figures from the bay, through every port.
+//! The figures of docs/RULES.md, section 11, through every port.
 
 #[cfg(board)]
 use oracle::board::Board;

@@ -44,7 +44,7 @@ impl Fragmenter {
         }
     }
 
-    /// The tag of the message; a fresh one shows here.
+    /// The tag of the message, also where the stack has chosen it.
     pub const fn tag(&self) -> Tag {
         let value = TagValue(self.row[4] as u8);
         match self.row[3] {

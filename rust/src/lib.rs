@@ -54,7 +54,7 @@
 //!
 //! # Coming from mctp-estack 0.1.0
 //!
-//! Names and behaviour are those of its `Stack`, but:
+//! Names and behaviour are those of its `Stack`, except that:
 //!
 //! - `receive` and `fetch_message` are lent the pool.
 //! - `new` and the calls under a handle give a `Result` where the original panics.

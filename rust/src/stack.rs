@@ -16,8 +16,8 @@ use core::fmt;
 /// to every [`receive`](Self::receive) and [`fetch_message`](Self::fetch_message) of a stack, and write nothing to it: a
 /// message shows what the pool holds. Any other pool is safe to lend, but its bytes are not the message.
 ///
-/// A refusal changes no byte of any buffer. It leaves the stack as it was too, but for what the call names and for the counter
-/// that orders events.
+/// A refusal changes no byte of any buffer. It leaves the stack as it was too, except for what the call names and for the
+/// counter that orders events.
 pub struct Stack {
     state: State,
 }
@@ -61,8 +61,8 @@ impl Stack {
         State::from_bytes(bytes).map(|state| Stack { state }).ok_or(NotKept)
     }
 
-    /// Whether the stack's bytes are still a state. It is always so, unless something beside this crate has written them: a
-    /// board that suspects its memory asks before any other call.
+    /// Whether the stack's bytes are still a state. They always are, unless something outside this crate has written them. A
+    /// board that suspects its memory asks this before any other call.
     pub fn is_kept(&self) -> bool {
         self.state.is_kept()
     }
@@ -70,9 +70,9 @@ impl Stack {
     /// Takes the clock and gives `(millis, expired)`: after how long to call again, at most [`TIMEOUT_INTERVAL`], and whether
     /// something has expired.
     ///
-    /// If the time that the last call gave is over, drops messages older than [`REASSEMBLY_EXPIRY_TIMEOUT`] (half in, from their
-    /// opening packet; whole with no handle out, from their closing packet) and flows with expiry older than
-    /// [`FLOW_EXPIRY_TIMEOUT`], from their send.
+    /// When the time that the last call gave has passed, and in the first call, it drops messages older than
+    /// [`REASSEMBLY_EXPIRY_TIMEOUT`] (incomplete ones, counted from their opening packet; whole ones with no handle out, from
+    /// their closing packet) and flows with expiry older than [`FLOW_EXPIRY_TIMEOUT`], counted from their send.
     ///
     /// [`Error::InvalidInput`]: the clock is below the last one.
     ///
@@ -97,7 +97,7 @@ impl Stack {
     ///   a reply under the peer's.
     /// - A request puts up a flow, which lets its reply in and gives it `cookie`. With `tag_expires` the flow expires. An owned
     ///   tag whose flow stands without expiry is used again; that flow keeps its first cookie.
-    /// - `mtu`: the smaller of this and the stack's holds.
+    /// - `mtu`: the smaller of this and the stack's MTU holds.
     ///
     /// [`Error::InvalidInput`]: type above 127 or tag above 7; nothing has changed.
     /// [`Error::TagUnavailable`]: no tag is free for this peer, or 64 flows stand; the counter of fresh tags has moved.
@@ -267,7 +267,7 @@ fn tag_words(tag: Option<Tag>) -> (u64, u64) {
 /// the compiler finds most uses of an old one. Firmware that keeps handles as numbers uses [`from_numbers`](Self::from_numbers),
 /// and any numbers are safe there.
 ///
-/// A handle means something to the stack that gave it alone. Another stack may have one of the same numbers out.
+/// A handle means something only to the stack that gave it. Another stack may have one of the same numbers out.
 #[must_use = "give the handle back, or its slot stays taken"]
 #[derive(Debug, PartialEq, Eq, Hash)]
 pub struct ReceiveHandle {
@@ -301,7 +301,7 @@ impl ReceiveHandle {
 pub struct MctpMessage<'a> {
     /// Who sent it.
     pub source: Eid,
-    /// Whom it was sent to: the own EID of then, or [`Eid::NULL`].
+    /// Whom it was sent to: the own EID at that time, or [`Eid::NULL`].
     pub dest: Eid,
     /// Its tag: owned for a request, unowned for a reply.
     pub tag: Tag,
@@ -311,7 +311,7 @@ pub struct MctpMessage<'a> {
     pub ic: MsgIC,
     /// Its body, without the type byte.
     pub payload: &'a [u8],
-    /// A reply's: the cookie that its request gave to [`Stack::start_send`]. Or what [`Stack::set_cookie`] has set.
+    /// For a reply, the cookie that its request gave to [`Stack::start_send`]; or what [`Stack::set_cookie`] has set.
     pub cookie: Option<AppCookie>,
 }
 

@@ -13,7 +13,7 @@ impl Eid {
     /// Everyone; no packet may come from it.
     pub const ANY: Eid = Eid(255);
 
-    /// An EID that an endpoint can have as its own: 8 to 254, else [`Error::InvalidInput`].
+    /// An EID that an endpoint can have as its own, 8 to 254; any other is [`Error::InvalidInput`].
     ///
     /// ```
     /// use hyphaloom::{Eid, Error};
@@ -63,7 +63,7 @@ pub struct MsgType(pub u8);
 #[derive(Debug, Clone, Copy, PartialEq, Eq, PartialOrd, Ord, Hash)]
 pub struct MsgIC(pub bool);
 
-/// A number by which the application knows its replies again.
+/// A number by which the application recognises its replies.
 #[derive(Debug, Clone, Copy, PartialEq, Eq, PartialOrd, Ord, Hash)]
 #[repr(transparent)]
 pub struct AppCookie(pub u64);

@@ -69,7 +69,7 @@ module _ (B : ℕ) (H : List Taken) (w : World) (v : Inv B H w) (p : List ℕ) (
       (subst (λ (d : List ℕ). Exactly (messageAt B i (record { stack = r .stack; pool = d })) p (taken B H w v p true r i g t ∷ H))
       (sym (took-pool B H w v p true r i g t)) (took-exact r i g t)))
 
--- Demand 3, second half: from a stack with no slot taken and a full pool, after any calls at all, whenever a packet hands out a message, that message is
+-- Demand 3, second half: from a stack with no slot taken and a pool that is long enough, after any calls at all, whenever a packet hands out a message, it is
 -- exactly what was taken under its key since the newest opening packet: numbered in turn modulo four, of the opening packet's type, IC and cookie, and, if
 -- all of it came with the pool that we watch, with those bytes for its body
 pub told : (B : ℕ) (w₀ : World) → allOf isEmpty (w₀ .stack .slots) ≡ true → B * length (w₀ .stack .slots) ≤ length (w₀ .pool)

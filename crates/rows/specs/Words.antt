@@ -36,8 +36,8 @@ tagFrom owner t = tagUnder owner (record { 0 = t })
 unfoldable pub cookieFrom : Bool → ℕ → Cookie
 cookieFrom has value = pick has (Given (record { 0 = value })) Absent
 
--- The words of a send: destination, type, kind of tag, tag, expires, IC, has an MTU, MTU, has a cookie, cookie. The kind is 0 for a fresh tag, 1 for a given
--- owned tag and 2 for a given unowned one.
+-- A send: destination, type, kind of tag, tag, expires, IC, has an MTU, MTU, has a cookie, cookie. The kind is 0 for a fresh tag, 1 for a given owned tag
+-- and 2 for a given unowned one.
 
 -- whether the row is a good send: destination and type are bytes, the kind of tag is one of the three, and a given tag is a byte
 unfoldable pub goodSend : List ℕ → Bool
