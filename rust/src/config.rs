@@ -30,5 +30,5 @@ pub const DEFERRED_TIMEOUT: u32 = REASSEMBLY_EXPIRY_TIMEOUT;
 /// A flow with expiry expires when it is older than this, from its send.
 pub const FLOW_EXPIRY_TIMEOUT: u32 = 6000;
 
-/// Timeouts are checked at most once in so long. See [`Stack::update`](crate::Stack::update).
+/// The next check of timeouts is at most so many milliseconds away. See [`Stack::update`](crate::Stack::update).
 pub const TIMEOUT_INTERVAL: u32 = 100;
