@@ -6,7 +6,7 @@ use mathlib.Core.Bool.{Bool, true, false}
 use mathlib.Core.List.{List, _++_}
 use lib.ListN.{length, getD, set, drop, length-set, length-append, length-drop}
 use lib.Seq.{getD-set-other, getD-set-same}
-use borrow.Author.Tests.{le-ltb, lt-ltb, eq-eqb}
+use borrow.Author.Tests.{le-ltb, lt-ltb}
 use Rattle.octets.specs.Pick.{pick}
 use Rattle.octets.specs.Bytes.{over}
 use Rattle.mctp.specs.declared.Key.{Key}
@@ -27,6 +27,7 @@ use Rattle.reassemble.specs.declared.Entry.the-variants.{Takes}
 use Rattle.slot.specs.Slot.{blankSlot, isEmpty, collects}
 use Rattle.slot.specs.Search.{slotFor}
 use Rattle.reassemble.specs.Enter.{enter, append, appended}
+use Rattle.reassemble.proofs.Entries.{append-is}
 use Rattle.fragment.specs.Cutting.{bodyIn, saysSom}
 use Rattle.state.specs.Stack.{Stack, slotAt, ticked}
 use Rattle.slot.specs.declared.ReceiveHandle.{ReceiveHandle}
@@ -52,12 +53,6 @@ receive-is : (B : ℕ) (st : Stack) (room : ℕ) (p : List ℕ) (h : Header) (j 
     → receiveOf B st room p ≡ land B j (countedOpening (isEmpty (slotAt j st)) st) h p (Pass s)
 unfolding receiveOf receiveBy receiveAt pick
 receive-is B st room p h j s d r q i g = rw (d, q, le-ltb room (B * length (st .slots)) r, lt-ltb j (length (st .slots)) i, g)
-
--- a packet that has the number that is due, and that fits
-append-is : (B : ℕ) (now : EventStamp) (issue : ℕ) (s : Reassembler) (h : Header) (p : List ℕ) (start : ℕ) → h .seq ≡ s .«next_seq» → s .len + (length p - start) ≤ B
-    → append B now issue s h p start ≡ Takes (record { slot = appended (h .eom) now issue (length p - start) s; at = s .len; from = start; whole = h .eom })
-unfolding append pick
-append-is B now issue s h p start q f = rw (eq-eqb (h .seq) (s .«next_seq») q, le-ltb B (s .len + (length p - start)) f)
 
 module _ (B : ℕ) (K : Key) (typ : MsgType) (ic : MsgIC) (cookie : Cookie) (t₀ j : ℕ) where
   -- what holds before a packet of K is taken, with `bytes` collected already
@@ -116,7 +111,7 @@ module _ (B : ℕ) (K : Key) (typ : MsgType) (ic : MsgIC) (cookie : Cookie) (t�
     unfolding st₁ now₁ issue₁ base entry land
     arrives =
         receive-is B (w .stack) (length (w .pool)) p h j (o .slot) (o .read) (o .room) (o .found) (o .inside) (o .gate)
-        ∙ ap (settled B j (ticked st₁) (h .key) p) (o .enters now₁ issue₁ ∙ append-is B now₁ issue₁ base h p (lead (h .som)) refl (rw size (o .fits)) ∙ ap entry size)
+        ∙ ap (settled B j (ticked st₁) (h .key) p) (o .enters now₁ issue₁ ∙ append-is B now₁ issue₁ base h p (lead (h .som)) refl (le-ltb B (length bytes + (length p - lead (h .som))) (rw size (o .fits))) ∙ ap entry size)
 
     w₁ : World
     w₁ = step B (receive p) w

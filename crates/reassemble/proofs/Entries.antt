@@ -1,16 +1,18 @@
 -- What a packet makes of a slot: laws for callers, which open no definition.
 -- Each goes by the ends of a packet's way.
-use Prim.Native.Nat.{ℕ, _+_, _≤_, _<_}
+use Prim.Native.Nat.{ℕ, _+_, _-_, _≤_, _<_}
 use native.Mathlib.Omega.{arith}
 use mathlib.Core.Path.{_≡_, refl, sym, subst, _∙_}
 use mathlib.Core.Bool.{Bool, true, false}
 use mathlib.Core.List.{List}
+use lib.Dec.{ltb}
 use lib.ListN.{length}
-use borrow.Author.Tests.{ltb-false}
-use Rattle.octets.specs.Pick.{pick, pick-cases}
+use borrow.Author.Tests.{ltb-false, eq-eqb, ne-eqb}
+use Rattle.octets.specs.Pick.{pick, pick-true, pick-false, pick-cases}
 use Rattle.octets.proofs.Bools.{no-both}
 use Rattle.mctp.specs.declared.Header.{Header}
 use Rattle.mctp.specs.declared.Error.{Error}
+use Rattle.mctp.specs.declared.Error.the-variants.{InvalidInput, NoSpace}
 use Rattle.stamp.specs.declared.EventStamp.{EventStamp}
 use Rattle.slot.specs.declared.Reassembler.{Reassembler}
 use Rattle.reassemble.specs.declared.Taken.{Taken}
@@ -42,6 +44,21 @@ by-steps P e brief wrong over q begins goes-on t u =
     (λ m. pick-cases (OfTaken P) (λ n. pick-cases (OfTaken P) (λ _. tt) (goes-on m n)) (λ _. tt)))
 
 module _ (B : ℕ) (now : EventStamp) (issue : ℕ) (s : Reassembler) (h : Header) (p : List ℕ) where
+  -- rules 47, 48 and 49, each by its test
+  module _ (start : ℕ) where
+    pub append-astray : (h .seq ≡ s .«next_seq» → ⊥) → append B now issue s h p start ≡ Frees InvalidInput
+    unfolding append
+    append-astray n = pick-false _ _ _ (ne-eqb (h .seq) (s .«next_seq») n)
+
+    pub append-full : h .seq ≡ s .«next_seq» → ltb B (s .len + (length p - start)) ≡ true → append B now issue s h p start ≡ Frees NoSpace
+    unfolding append
+    append-full q f = pick-true _ _ _ (eq-eqb (h .seq) (s .«next_seq») q) ∙ pick-true _ _ _ f
+
+    pub append-is : h .seq ≡ s .«next_seq» → ltb B (s .len + (length p - start)) ≡ false
+        → append B now issue s h p start ≡ Takes (record { slot = appended (h .eom) now issue (length p - start) s; at = s .len; from = start; whole = h .eom })
+    unfolding append
+    append-is q f = pick-true _ _ _ (eq-eqb (h .seq) (s .«next_seq») q) ∙ pick-false _ _ _ f
+
   -- the plan's bytes are the packet's, and fit the body
   pub enter-plan : 4 ≤ length p → (t : Taken) → enter B now issue s h p ≡ Takes t → Planned t (length p) B
   unfolding enter append

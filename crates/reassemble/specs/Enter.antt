@@ -77,7 +77,7 @@ begun now h kind s = record {
   ic = typeOf kind .ic;
   «next_seq» = h .seq;
   len = 0;
-  cookie = s .cookie;  -- a collecting slot keeps its cookie
+  cookie = s .cookie;
   stamp = now;
 }
 

@@ -114,7 +114,7 @@ fn begin(s: Reassembler, h: Header, kind: u8, stamp: EventStamp) -> Reassembler
     let key = s.key;
     let typ = t.typ;
     let ic = t.ic;
-    let cookie = s.cookie;
+    let cookie = s.cookie; // a collecting slot keeps its cookie
     let len = 0;
     Reassembler {
         state: state,
@@ -198,13 +198,13 @@ fn accept(
     ensures { λ r. ⌜ r ≡ append most stamp issue s h (now (packet .entry)) start ⌝ }
 {
     if h.seq != s.next_seq {
-        return Entry::Frees(Error::InvalidInput);
+        return Entry::Frees(Error::InvalidInput); // rule 47
     }
     let n = left_from(packet, start);
     let len = s.len;
     let over = overfills(len, n, most);
     if over {
-        return Entry::Frees(Error::NoSpace);
+        return Entry::Frees(Error::NoSpace); // rule 48
     }
     let slot = grow(s, h.eom, stamp, issue, n);
     Entry::Takes(Taken {
@@ -229,7 +229,7 @@ pub fn receive(
 {
     if h.som {
         if packet.len() < 5 {
-            return Entry::Frees(Error::InvalidInput);
+            return Entry::Frees(Error::InvalidInput); // rule 45
         }
         let begun = begin(s, h, packet[4], stamp);
         return accept(begun, h, packet, 5, stamp, issue, most);

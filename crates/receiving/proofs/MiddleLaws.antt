@@ -5,8 +5,8 @@ use mathlib.Core.Path.{_≡_, sym, ap, subst, _∙_}
 use mathlib.Core.Bool.{Bool, true, false}
 use mathlib.Core.List.{List}
 use lib.ListN.{length}
-use borrow.Author.Tests.{eq-eqb, eqb-true, leb-true, le-ltb}
-use Rattle.octets.specs.Pick.{pick, pick-true, pick-false, pick-cases}
+use borrow.Author.Tests.{eqb-true, leb-true, le-ltb}
+use Rattle.octets.specs.Pick.{pick, pick-false, pick-cases}
 use Rattle.octets.proofs.Bools.{false-true}
 use Rattle.mctp.specs.declared.Header.{Header}
 use Rattle.stamp.specs.declared.EventStamp.{EventStamp}
@@ -14,7 +14,8 @@ use Rattle.slot.specs.declared.Reassembler.{Reassembler}
 use Rattle.reassemble.specs.declared.Entry.{Entry}
 use Rattle.reassemble.specs.declared.Entry.the-variants.{Takes}
 use Rattle.reassemble.specs.declared.Gate.the-variants.{Pass}
-use Rattle.reassemble.specs.Enter.{enter, append, appended}
+use Rattle.reassemble.specs.Enter.{enter, appended}
+use Rattle.reassemble.proofs.Entries.{append-is}
 use Rattle.state.specs.declared.Progress.{Progress}
 use Rattle.state.specs.Slot.{progress, progressOf}
 use Rattle.state.specs.Stack.{Stack, ticked}
@@ -48,13 +49,11 @@ module _ (B : ℕ) (h : Header) (p : List ℕ) (s : Reassembler) where
   taken now issue eom = Takes (record { slot = appended eom now issue (length p - 4) s; at = s .len; from = 4; whole = eom })
 
   entry : (now : EventStamp) (issue : ℕ) → s .len ≤ B → isMiddle h (progressOf s) (length p - 4) B ≡ true → enter B now issue s h p ≡ grown p s (h .seq) (s .len)
-  unfolding enter append pick
+  unfolding enter pick
   entry now issue l e =
       let g = goes h (progressOf s) (length p - 4) B e in
       let r = goes-room h (progressOf s) (length p - 4) B l e in
-      pick-false (h .som) _ _ (g .som)
-      ∙ pick-true _ _ _ (eq-eqb (h .seq) (s .«next_seq») (g .seq))
-      ∙ pick-false _ _ _ (le-ltb B (s .len + (length p - 4)) r)
+      pick-false (h .som) _ _ (g .som) ∙ append-is B now issue s h p 4 (g .seq) (le-ltb B (s .len + (length p - 4)) r)
       ∙ ap (taken now issue) (g .eom)
       ∙ ap (λ (q : ℕ). grown p s q (s .len)) (sym (g .seq))
 
