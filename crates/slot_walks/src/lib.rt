@@ -203,7 +203,7 @@ fn sweep_slot(state: &mut [u8], sizes: Sizes, i: usize, peer: Eid, tag: TagValue
     if reply {
         let out = s.handle_taken();
         if out {
-            return true;
+            return true; // the walk stops at a handle
         }
         state::put_slot(state, sizes, i, slot::blank());
         return false;
