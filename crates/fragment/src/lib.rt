@@ -3,7 +3,7 @@
 // Leans on `mctp` for the header, on `copying` for the copy and on `octets` for numbers.
 ghost use mathlib.Core.Path.{_≡_};
 ghost use mathlib.Core.List.{_++_, _∷_};
-ghost use Prim.Native.Nat.{_+_, _-_, _≤_, _<_, _^_, min};
+ghost use Prim.Native.Nat.{_+_, _≤_, _<_, _^_};
 ghost use lib.ListN.{length};
 ghost use Rattle.octets.specs.Bytes.{over, part};
 ghost use Rattle.mctp.specs.Header.{headerBytes, lead};
@@ -16,6 +16,7 @@ use mctp::Key;
 use mctp::MsgIC;
 use mctp::MsgType;
 use mctp::Tag;
+use octets::beyond;
 use octets::smaller;
 
 pub struct Fragmenter {
@@ -68,16 +69,6 @@ pub enum Plan {
 pub enum Started {
     Sends(Fragmenter),
     Refused(Error),
-}
-
-// What is left of `a` past `b`.
-fn beyond(a: usize, b: usize) -> usize
-    ensures { λ r. ⌜ r ≡ a - b ⌝ }
-{
-    if a < b {
-        return 0;
-    }
-    a - b
 }
 
 // Writes the first packet: header, type byte, and n bytes of the payload straight into the buffer.

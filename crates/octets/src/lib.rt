@@ -2,7 +2,7 @@
 // specs/ and proofs/ hold the definitions and laws of parts, numbers, regions, choices and first places that the other crates cite.
 // Leans on the toolchain's library alone.
 ghost use mathlib.Core.Path.{_≡_};
-ghost use Prim.Native.Nat.{min};
+ghost use Prim.Native.Nat.{_-_, min};
 ghost use Rattle.octets.specs.Bytes.{le, field, lay};
 
 pub fn get1(b: &[u8], at: usize) -> u8
@@ -84,6 +84,16 @@ pub fn put8(b: &mut [u8], at: usize, x: u64)
     }
     put4(b, at, (x % 4294967296) as u32);
     put4(b, at + 4, (x / 4294967296) as u32);
+}
+
+// What is left of `a` past `b`: nothing where it ends before.
+pub fn beyond(a: usize, b: usize) -> usize
+    ensures { λ r. ⌜ r ≡ a - b ⌝ }
+{
+    if a < b {
+        return 0;
+    }
+    a - b
 }
 
 // The smaller of two.

@@ -2,7 +2,7 @@
 // caller lends, and a plan says which bytes of the packet go where. Definitions: specs/Enter.antt.
 // Leans on `slot` for the record, on `mctp` for header and key, on `stamp` for time.
 ghost use mathlib.Core.Path.{_≡_};
-ghost use Prim.Native.Nat.{_+_, _-_, _≤_, _<_, _^_};
+ghost use Prim.Native.Nat.{_+_, _≤_, _<_, _^_};
 ghost use lib.Dec.{ltb};
 ghost use lib.ListN.{length};
 ghost use Rattle.reassemble.specs.Enter.{isLocal, localPacket, opening, opened, gateReply, begun, appended, append, enter, Planned};
@@ -165,16 +165,6 @@ fn grow(s: Reassembler, eom: bool, stamp: EventStamp, issue: u64, n: usize) -> R
     }
 }
 
-// The bytes of a packet from `start` on: none where it ends before.
-fn left_from(packet: &[u8], start: usize) -> usize
-    ensures { λ r. ⌜ r ≡ length (now (packet .entry)) - start ⌝ }
-{
-    if packet.len() < start {
-        return 0;
-    }
-    packet.len() - start
-}
-
 // Whether n bytes more are too many for a body of `len` bytes that holds at most `most`.
 fn overfills(len: usize, n: usize, most: usize) -> bool
     ensures { λ r. ⌜ r ≡ ltb most (len + n) ⌝ }
@@ -200,7 +190,7 @@ fn accept(
     if h.seq != s.next_seq {
         return Entry::Frees(Error::InvalidInput); // rule 47
     }
-    let n = left_from(packet, start);
+    let n = octets::beyond(packet.len(), start);
     let len = s.len;
     let over = overfills(len, n, most);
     if over {

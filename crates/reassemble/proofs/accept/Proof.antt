@@ -16,8 +16,8 @@ returns c =
     let a = c .before .before .before .before .args in
     sym (append-astray (a .most) (a .stamp) (a .issue) (a .s) (a .h) (now (a .packet)) (a .start) (c .if1 .taken))
 
-left-from-requires : tie.Need-left-from-requires
-left-from-requires c κs = search needs
+beyond-requires : tie.Need-beyond-requires
+beyond-requires c κs = search needs
 
 overfills-requires : tie.Need-overfills-requires
 overfills-requires c κs = search needs
@@ -25,18 +25,18 @@ overfills-requires c κs = search needs
 returns-2 : tie.Need-returns-2
 returns-2 c =
     let a = c .before .before .before .before .before .before .before .args in
-    let f = rw (c .before .before .left-from .ensures) at (sym (c .before .overfills .ensures) ∙ c .if2 .taken) in
+    let f = rw (c .before .before .beyond .ensures) at (sym (c .before .overfills .ensures) ∙ c .if2 .taken) in
     sym (append-full (a .most) (a .stamp) (a .issue) (a .s) (a .h) (now (a .packet)) (a .start) (c .before .before .before .if1 .left) f)
 
 grow-requires : tie.Need-grow-requires
 grow-requires c κs =
     let a = c .before .before .before .before .before .before .before .args in
-    omega (arith, ltb-false (a .most) (a .s .len + c .before .before .left-from .result) (sym (c .before .overfills .ensures) ∙ c .if2 .left))
+    omega (arith, ltb-false (a .most) (a .s .len + c .before .before .beyond .result) (sym (c .before .overfills .ensures) ∙ c .if2 .left))
 
 returns-3 : tie.Need-returns-3
 returns-3 c =
     let a = c .before .before .before .before .before .before .before .before .args in
-    let n = c .before .before .before .left-from .ensures in
+    let n = c .before .before .before .beyond .ensures in
     let f = rw n at (sym (c .before .before .overfills .ensures) ∙ c .before .if2 .left) in
     let g = rw n at (c .grow .ensures) in
     ap (λ (x : Reassembler). Takes (record { slot = x; at = a .s .len; from = a .start; whole = a .h .eom })) g
@@ -47,7 +47,7 @@ accept-spec =
     tie.close
     (tie.spec
     returns
-    left-from-requires
+    beyond-requires
     overfills-requires
     returns-2
     grow-requires
