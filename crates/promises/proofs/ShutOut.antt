@@ -1,4 +1,4 @@
--- Wrong stacks (docs/PROMISES.md, "Shut out"): for each there is a statement that no stack of these definitions is one.
+-- Wrong stacks (docs/PROMISES.md, "Shut out"): for each there is a statement that no stack of these definitions is one. The one on the remaining time stands in `updating`.
 use Prim.Native.Nat.{ℕ, _-_, _≤_, _<_}
 use native.Mathlib.Omega.{arith}
 use mathlib.Core.Path.{_≡_, refl, sym, ap, _∙_, subst}
@@ -50,7 +50,6 @@ use Rattle.promises.proofs.Gate.{Source, collected, opens}
 use Rattle.promises.proofs.Outcome.{Took, Outcome, quiet, dropped, took, receive-outcome}
 use Rattle.promises.proofs.Fetch.{zero-takes}
 use Rattle.promises.proofs.HandOut.{hands-out, one-message}
-use Rattle.promises.proofs.Least.{LeastOf, least-left}
 use Rattle.promises.proofs.Bits.{howMany, all-bits}
 
 -- ---- one that refuses all
@@ -137,54 +136,6 @@ not-before-eom B st room p g read n h e =
     let z : Good g ≡ Good (q .1) = sym read ∙ t .read in
     let x : g ≡ q .1 = cc in
     no-both (g .eom) (ap (λ (y : Header). y .eom) x ∙ said-eom (q .1 .eom) (q .0) (t .issue) h (sym (t .said) ∙ e)) n
-
--- ---- one that invents the remaining time
-
--- n is the least of 100 and every remaining time at that clock: it is at most each of them, and it is one of them
-pub record Remaining (n now : ℕ) (st : Stack) : Type 0 where
-  pub most : n ≤ 100
-  pub slots : (k m : ℕ) → slotTimeout now (slotAt k st) ≡ Left m → n ≤ m
-  pub flows : (k m : ℕ) → flowTimeout now (flowAt k st) ≡ Left m → n ≤ m
-  pub met : (n ≡ 100) ⊎ (((k : ℕ) × (slotTimeout now (slotAt k st) ≡ Left n)) ⊎ ((k : ℕ) × (flowTimeout now (flowAt k st) ≡ Left n)))
-
-module _ (now : ℕ) (st : Stack) where
-  least-slot : LeastOf (leastLeft (slotTimes now st) interval) interval (slotTimeout now) blankSlot (st .slots)
-  least-slot = least-left (slotTimeout now) blankSlot refl (st .slots) interval
-
-  least-flow : LeastOf (leastOf now st) (leastLeft (slotTimes now st) interval) (flowTimeout now) noFlow (st .flows)
-  least-flow = least-left (flowTimeout now) noFlow refl (st .flows) (leastLeft (slotTimes now st) interval)
-
-  remaining : Remaining (leastOf now st) now st
-  remaining = record {
-    most = omega (arith, least-slot .bound, least-flow .bound);
-    slots = λ k m e. omega (arith, least-slot .below k m e, least-flow .bound);
-    flows = least-flow .below;
-    met = go (leastOf now st) (leastLeft (slotTimes now st) interval) (least-flow .met) (least-slot .met);
-  }
-    where
-      go : (n r : ℕ) → (n ≡ r) ⊎ ((k : ℕ) × (flowTimeout now (flowAt k st) ≡ Left n)) → (r ≡ 100) ⊎ ((k : ℕ) × (slotTimeout now (slotAt k st) ≡ Left r))
-          → (n ≡ 100) ⊎ (((k : ℕ) × (slotTimeout now (slotAt k st) ≡ Left n)) ⊎ ((k : ℕ) × (flowTimeout now (flowAt k st) ≡ Left n)))
-      go n r (inr q) s = inr (inr q)
-      go n r (inl e) (inl q) = inl (e ∙ q)
-      go n r (inl e) (inr q) = inr (inl (q .0, q .1 ∙ ap Left (sym e)))
-
--- the number that `update` tells is the gap to the planned check, or the least of 100 and every remaining time
-pub told-time : (t : ℕ) (st : Stack) (n : ℕ) (expired : Bool) → updateOf t st .said ≡ Next n expired
-    → ((t < st .head .«next_timeout») × (n ≡ st .head .«next_timeout» - t)) ⊎ Remaining n t st
-unfolding updateOf checked
-told-time t st n expired =
-    pick-cases P (λ _ e. refused e)
-    (λ _. pick-cases P (λ y e. inl (ltb-true t (st .head .«next_timeout») y, told (st .head .«next_timeout» - t) false e))
-    (λ _ e. inr (subst (λ (m : ℕ). Remaining m t st) (sym (told (leastOf t st) _ e)) (remaining t st))))
-  where
-    P : Update → Type 0
-    P u = u .said ≡ Next n expired → ((t < st .head .«next_timeout») × (n ≡ st .head .«next_timeout» - t)) ⊎ Remaining n t st
-
-    refused : Refused InvalidInput ≡ Next n expired → ((t < st .head .«next_timeout») × (n ≡ st .head .«next_timeout» - t)) ⊎ Remaining n t st
-    refused e = absurd (let z : _≡_ {A = ℕ} 0 1 = cc in omega arith)
-
-    told : (m : ℕ) (b : Bool) → Next m b ≡ Next n expired → n ≡ m
-    told m b e = cc
 
 -- ---- one that invents the free tags
 

@@ -1,95 +1,82 @@
--- The first number of an update that is not refused is the gap to the planned check, or the least of 100 and every remaining time; either way it is at most
--- 100.
-use Prim.Native.Nat.{ℕ, _+_, _-_, _≤_, min}
+-- The first number of an update that is not refused is the gap to the planned check, or the least of 100 and every remaining time; either way it is at most 100.
+use Prim.Native.Nat.{ℕ, _-_, _≤_, _<_}
 use native.Mathlib.Omega.{arith}
-use mathlib.Core.Path.{_≡_, refl, ap, _∙_}
-use mathlib.Core.Logic.{_⊎_, inl, inr, ⊎-elim}
-use mathlib.Core.Bool.{Bool, true, false}
-use mathlib.Core.List.{List, [], _∷_, _++_, List·Memᴰ, List·Memᴰ·head, List·Memᴰ·tail, List·Memᴰ·not-nil, List·Memᴰ·cases-cons}
+use mathlib.Core.Path.{_≡_, refl, sym, ap, _∙_}
+use mathlib.Core.Logic.{_⊎_, inl, inr}
+use mathlib.Core.Bool.{Bool, false}
 use lib.Dec.{ltb}
 use borrow.Author.Tests.{ltb-true, ltb-false}
 use Rattle.config.specs.Config.{interval}
 use Rattle.octets.specs.Pick.{pick-cases}
-use Rattle.octets.proofs.Bools.{bool-cases}
-use Rattle.stamp.specs.declared.Timeout.{Timeout}
-use Rattle.stamp.specs.declared.Timeout.the-variants.{Untimed, Expired, Left}
-use Rattle.stamp.specs.Stamp.{soonerOf}
-use Rattle.state.specs.Head.{HeadOk}
-use Rattle.state.specs.Stack.{Stack}
+use Rattle.stamp.specs.declared.Timeout.the-variants.{Left}
 use Rattle.stamp.specs.Checks.{leastLeft}
-use Rattle.state.specs.Times.{slotTimes, flowTimes}
+use Rattle.stamp.proofs.Least.{LeastOf, least-left}
+use Rattle.flows.specs.Table.{noFlow, flowTimeout}
+use Rattle.slot.specs.Slot.{blankSlot, slotTimeout}
+use Rattle.state.specs.Head.{HeadOk}
+use Rattle.state.specs.Stack.{Stack, slotAt, flowAt}
+use Rattle.state.specs.Times.{slotTimes}
 use Rattle.updating.specs.declared.Updated.{Updated}
 use Rattle.updating.specs.declared.Updated.the-variants.{Next, Refused}
 use Rattle.updating.specs.Update.{Update, leastOf, checked, updateOf}
 
--- n is the least of a bound and every remaining time of a list
-pub record Least (l : List Timeout) (bound n : ℕ) : Type 0 where
-  pub bounded : n ≤ bound
-  pub below : (m : ℕ) → List·Memᴰ (Left m) l → n ≤ m
-  pub attained : (n ≡ bound) ⊎ List·Memᴰ (Left n) l
+-- n is the least of 100 and every remaining time at that clock: at most each of them, and one of them
+pub record Remaining (n now : ℕ) (st : Stack) : Type 0 where
+  pub most : n ≤ 100
+  pub slots : (k m : ℕ) → slotTimeout now (slotAt k st) ≡ Left m → n ≤ m
+  pub flows : (k m : ℕ) → flowTimeout now (flowAt k st) ≡ Left m → n ≤ m
+  pub met : (n ≡ 100) ⊎ (((k : ℕ) × (slotTimeout now (slotAt k st) ≡ Left n)) ⊎ ((k : ℕ) × (flowTimeout now (flowAt k st) ≡ Left n)))
 
-sooner-le : (t : Timeout) (n : ℕ) → soonerOf t n ≤ n
-sooner-le Untimed n = omega arith
-sooner-le Expired n = omega arith
-sooner-le (Left m) n = omega arith
+module _ (now : ℕ) (st : Stack) where
+  least-slot : LeastOf (leastLeft (slotTimes now st) interval) interval (slotTimeout now) blankSlot (st .slots)
+  least-slot = least-left (slotTimeout now) blankSlot refl (st .slots) interval
 
-sooner-left : (t : Timeout) (m n : ℕ) → Left m ≡ t → soonerOf t n ≤ m
-sooner-left t m n e = rw (← e) (omega arith)
+  least-flow : LeastOf (leastOf now st) (leastLeft (slotTimes now st) interval) (flowTimeout now) noFlow (st .flows)
+  least-flow = least-left (flowTimeout now) noFlow refl (st .flows) (leastLeft (slotTimes now st) interval)
 
-smaller-is : (m n : ℕ) → (min m n ≡ n) ⊎ (min m n ≡ m)
-smaller-is m n =
-    bool-cases (ltb m n) (λ (e : ltb m n ≡ true). inr (let l = ltb-true m n e in omega arith)) (λ (e : ltb m n ≡ false). inl (let l = ltb-false m n e in omega arith))
+  pub remaining : Remaining (leastOf now st) now st
+  remaining = record {
+    most = omega (arith, least-slot .bound, least-flow .bound);
+    slots = λ k m e. omega (arith, least-slot .below k m e, least-flow .bound);
+    flows = least-flow .below;
+    met = go (leastOf now st) (leastLeft (slotTimes now st) interval) (least-flow .met) (least-slot .met);
+  }
+    where
+      go : (n r : ℕ) → (n ≡ r) ⊎ ((k : ℕ) × (flowTimeout now (flowAt k st) ≡ Left n)) → (r ≡ 100) ⊎ ((k : ℕ) × (slotTimeout now (slotAt k st) ≡ Left r))
+          → (n ≡ 100) ⊎ (((k : ℕ) × (slotTimeout now (slotAt k st) ≡ Left n)) ⊎ ((k : ℕ) × (flowTimeout now (flowAt k st) ≡ Left n)))
+      go n r (inr q) s = inr (inr q)
+      go n r (inl e) (inl q) = inl (e ∙ q)
+      go n r (inl e) (inr q) = inr (inl (q .0, q .1 ∙ ap Left (sym e)))
 
-sooner-is : (t : Timeout) (n : ℕ) → (soonerOf t n ≡ n) ⊎ (Left (soonerOf t n) ≡ t)
-sooner-is Untimed n = inl refl
-sooner-is Expired n = inl refl
-sooner-is (Left m) n = ⊎-elim (λ (e : min m n ≡ n). inl e) (λ (e : min m n ≡ m). inr (ap Left e)) (smaller-is m n)
+-- what the first number of an update is: the gap to the planned check, or the least of 100 and every remaining time
+abbrev pub Tells : ℕ → Stack → ℕ → Type 0
+Tells now st n = ((now < st .head .«next_timeout») × (n ≡ st .head .«next_timeout» - now)) ⊎ Remaining n now st
 
-pub least-is : (l : List Timeout) (n : ℕ) → Least l n (leastLeft l n)
-unfolding leastLeft
-least-is [] n = record { bounded = omega arith; below = λ m h. absurd (List·Memᴰ·not-nil h); attained = inl refl }
-least-is (t ∷ l) n =
-    let s = soonerOf t n in
-    let k = leastLeft l s in
-    let h = least-is l s in
-    record {
-      bounded = let p = h .bounded in let q = sooner-le t n in omega arith;
-      below = λ m a. ⊎-elim (λ (e : Left m ≡ t). let p = h .bounded in let q = sooner-left t m n e in omega arith) (λ (b : List·Memᴰ (Left m) l). h .below m b) (List·Memᴰ·cases-cons a);
-      attained =
-          ⊎-elim (λ (e : k ≡ s). ⊎-elim (λ (f : s ≡ n). inl (e ∙ f)) (λ (f : Left s ≡ t). inr (List·Memᴰ·head (ap Left e ∙ f))) (sooner-is t n))
-          (λ (b : List·Memᴰ (Left k) l). inr (List·Memᴰ·tail b)) (h .attained);
-    }
+-- of what an update says, if it does not refuse
+abbrev Told : ℕ → Stack → Updated → Type 0
+Told now st (Next n any) = Tells now st n × (HeadOk (st .head) → n ≤ interval)
+Told now st (Refused err) = Unit
 
-least-append : (l m : List Timeout) (n : ℕ) → leastLeft (l ++ m) n ≡ leastLeft m (leastLeft l n)
-unfolding leastLeft
-least-append [] m n = refl
-least-append (t ∷ l) m n = least-append l m (soonerOf t n)
+told-of : (now : ℕ) (st : Stack) → Told now st (updateOf now st .said)
+unfolding updateOf checked
+told-of now st =
+    pick-cases (λ (u : Update). Told now st (u .said)) (λ _. tt)
+    (λ (e : ltb now (st .head .now .clock) ≡ false).
+    pick-cases (λ (u : Update). Told now st (u .said))
+    (λ y. (inl (ltb-true now (st .head .«next_timeout») y, refl), λ ok. let l = ltb-false now (st .head .now .clock) e in omega (arith, ok .soon)))
+    (λ _. (inr (remaining now st), λ _. remaining now st .most)))
 
--- every remaining time of a stack: first those of its slots, then those of its flows
-abbrev pub times : ℕ → Stack → List Timeout
-times now st = slotTimes now st ++ flowTimes now st
-
-pub least-of : (now : ℕ) (st : Stack) → Least (times now st) interval (leastOf now st)
-least-of now st = rw least-append at (least-is (times now st) interval)
-
--- what the first number of an update is
+-- the same, and that it is at most 100
 pub record Number (now : ℕ) (st : Stack) (n : ℕ) : Type 0 where
   pub soon : n ≤ interval
-  pub is : (n ≡ st .head .«next_timeout» - now) ⊎ Least (times now st) interval n
+  pub is : Tells now st n
 
--- the same for what an update answers, if it does not refuse
-abbrev Numbered : ℕ → Stack → Updated → Type 0
-Numbered now st (Next n any) = Number now st n
-Numbered now st (Refused err) = Unit
+module _ (now : ℕ) (st : Stack) (n : ℕ) (any : Bool) where
+  told : updateOf now st .said ≡ Next n any → Told now st (Next n any)
+  told e = rw e at (told-of now st)
 
-pub number-of : (now : ℕ) (st : Stack) → HeadOk (st .head) → Numbered now st (updateOf now st .said)
-unfolding updateOf checked
-number-of now st ok =
-    pick-cases (λ (u : Update). Numbered now st (u .said)) (λ _. tt)
-    (λ (e : ltb now (st .head .now .clock) ≡ false).
-    pick-cases (λ (u : Update). Numbered now st (u .said))
-    (λ _. record { soon = let l = ltb-false now (st .head .now .clock) e in omega (arith, ok .soon); is = inl refl })
-    (λ _. record { soon = least-of now st .bounded; is = inr (least-of now st) }))
+  pub told-time : updateOf now st .said ≡ Next n any → Tells now st n
+  told-time e = told e .0
 
-pub updates-number : (now : ℕ) (st : Stack) (n : ℕ) (any : Bool) → HeadOk (st .head) → updateOf now st .said ≡ Next n any → Number now st n
-updates-number now st n any ok e = rw e at (number-of now st ok)
+  pub updates-number : HeadOk (st .head) → updateOf now st .said ≡ Next n any → Number now st n
+  updates-number ok e = record { soon = told e .1 ok; is = told-time e }

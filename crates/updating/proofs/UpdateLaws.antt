@@ -22,7 +22,7 @@ use Rattle.state.specs.Times.{slotTimes, flowTimes}
 use Rattle.updating.specs.declared.Updated.the-variants.{Next}
 use Rattle.updating.specs.Update.{leastOf, expires, plannedAt, checked}
 use Rattle.state.proofs.Steps.{Met}
-use Rattle.updating.proofs.Times.{least-of}
+use Rattle.updating.proofs.Times.{remaining}
 
 -- a clock that is not earlier is taken
 pub clock-taken : (t : ℕ) (s : EventStamp) → s .clock ≤ t → clocked t s .clock ≡ t
@@ -56,7 +56,7 @@ module _ (z : Sizes) (b x y : List ℕ) (clock : ℕ) (s c : Check) (p : Met z b
   -- the check that is planned is at most 100 ms away
   pub plan-soon : (n : ℕ) (h : Head) → n ≡ plannedAt clock (c .least) → clock ≡ st .head .now .clock → h ≡ stackOf z y .head → n ≤ h .now .clock + 100
   plan-soon n h e k f =
-      let l = least-of clock st .bounded in
+      let l = remaining clock st .most in
       let m : c .least ≡ leastOf clock st = ap (λ (d : Check). d .least) found in
       let u : h .now .clock ≡ st .head .now .clock = ap (λ (d : Head). d .now .clock) f ∙ ap (λ (t : Stack). t .head .now .clock) (fades .view) in
       omega arith
