@@ -22,6 +22,7 @@ use Rattle.slot.specs.declared.State.the-variants.{Empty, Collecting, Done, Han
 use Rattle.slot.specs.declared.Reassembler.{Reassembler}
 use Rattle.slot.specs.Slot.{blankSlot, collectingState, outState, issueIs, handleTaken, isDone, isReply, keptUnder, slotTimeout, fadedSlot, withState}
 use Rattle.slot.specs.Search.{earliest}
+use Rattle.slot.proofs.Searches.{earliest-hit}
 use Rattle.state.specs.Stack.{Stack, slotAt, withStamp}
 use Rattle.slot_walks.specs.SlotWalks.{swept}
 use Rattle.slot.specs.declared.ReceiveHandle.{ReceiveHandle}
@@ -105,22 +106,12 @@ handled-touches f n h st =
 
 -- ---- by a lookup: one that is done
 
-pub earliest-done : (f : Reassembler → Bool) (l : List Reassembler) → earliest f l < length l → isDone (getD l (earliest f l) blankSlot) ≡ true
-unfolding earliest
-earliest-done f [] = λ h. absurd (omega arith)
-earliest-done f (s ∷ l) =
-    let on : P (suc (earliest f l)) = λ h. earliest-done f l (omega arith) in
-    pick-cases P (λ d. pick-cases P (λ _. pick-cases P (λ _. pick-cases P (λ _. on) (λ _ _. d)) (λ _ _. d)) (λ _. on)) (λ _. on)
-  where
-    P : ℕ → Type 0
-    P n = n < suc (length l) → isDone (getD (s ∷ l) n blankSlot) ≡ true
-
 pub deferred-touches : (f : Reassembler → Bool) (st : Stack) → Touches (λ s. isDone s ≡ true) st (deferredOf f st .stack)
 unfolding takeOf
 deferred-touches f st =
     let i = earliest f (st .slots) in
     pick-cases (λ (r : Lookup). Touches (λ s. isDone s ≡ true) st (r .stack))
-    (λ e. set-touches (λ s. isDone s ≡ true) st _ i (withState (HandleOut (nextIssue (st .head .issue))) (slotAt i st)) refl refl refl (earliest-done f (st .slots) (ltb-true i (length (st .slots)) e)))
+    (λ e. set-touches (λ s. isDone s ≡ true) st _ i (withState (HandleOut (nextIssue (st .head .issue))) (slotAt i st)) refl refl refl (earliest-hit f (st .slots) (ltb-true i (length (st .slots)) e) .0))
     (λ _. untouched st st refl (le-refl (st .head .now .clock)))
 
 pub source-touches : (source : Eid) (tag : Tag) (st : Stack) → Touches (λ s. isDone s ≡ true) st (bySourceOf source tag st .stack)

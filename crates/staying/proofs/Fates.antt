@@ -28,6 +28,7 @@ use Rattle.slot.specs.declared.State.the-variants.{Empty, Collecting, Done, Han
 use Rattle.slot.specs.declared.Reassembler.{Reassembler}
 use Rattle.slot.specs.Slot.{blankSlot, outState, doneState, emptyState, handleTaken, handleIs, isDone, isReply, keptUnder, listed, timeIn, fadedSlot, withState, withSlotCookie}
 use Rattle.slot.specs.Search.{earliest}
+use Rattle.slot.proofs.Searches.{earliest-hit}
 use Rattle.reassemble.specs.Enter.{appended}
 use Rattle.flows.specs.declared.Flow.{Flow}
 use Rattle.flows.specs.Table.{removed}
@@ -49,7 +50,7 @@ use Rattle.promises.proofs.Slots.{not-in, parts}
 use Rattle.promises.proofs.Gate.{Source, collected, opens}
 use Rattle.promises.proofs.Outcome.{Base, Outcome, quiet, dropped, took, receive-outcome}
 use Rattle.promises.proofs.Clock.{send-same}
-use Rattle.promises.proofs.Walks.{earliest-done, faded-blank, swept-count}
+use Rattle.promises.proofs.Walks.{faded-blank, swept-count}
 use Rattle.promises.proofs.Stale.{good-is}
 use Rattle.staying.specs.Staying.{sameHandle, names, tellsOf, checksAt, walksTo, ends}
 
@@ -139,7 +140,7 @@ module _ (B : ℕ) (c : Call) (st : Stack) where
       let i = earliest f (st .slots) in
       pick-cases Looks
       (λ e why. stored _ i (withState (HandleOut (nextIssue (st .head .issue))) (slotAt i st)) refl
-      (found refl (earliest-done f (st .slots) (ltb-true i (length (st .slots)) e)) (why i (eq-eqb i i refl))))
+      (found refl (earliest-hit f (st .slots) (ltb-true i (length (st .slots)) e) .0) (why i (eq-eqb i i refl))))
       (λ _ _. kept st refl)
 
   source-fates : (source : Eid) (tag : Tag) → Looks (bySourceOf source tag st)

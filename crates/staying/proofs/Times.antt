@@ -1,13 +1,13 @@
 -- No stamp is later than the clock, after any calls from a new stack. So a message with no handle out stays while no call seeks it: no clock more than 6,000 ms
 -- past its stamp, no cancel of its peer and tag, no lookup by what it is kept under. It does not matter what the calls find in other slots.
-use Prim.Native.Nat.{ℕ, suc, _+_, _≤_, _<_}
+use Prim.Native.Nat.{ℕ, _+_, _≤_}
 use native.Mathlib.Nat.{le-refl}
 use native.Mathlib.Omega.{arith}
 use mathlib.Core.Path.{_≡_, refl, sym, ap, subst, _∙_}
 use mathlib.Core.Bool.{Bool, true, not}
 use mathlib.Core.List.{List, [], _∷_}
 use lib.Dec.{ltb}
-use lib.ListN.{length, getD}
+use lib.ListN.{length}
 use borrow.Author.Tests.{eqb-true, ltb-true, ltb-false, not-true}
 use Rattle.octets.specs.Pick.{pick-cases}
 use Rattle.octets.proofs.Bools.{bool-cases}
@@ -15,8 +15,9 @@ use Rattle.mctp.specs.declared.Eid.{Eid}
 use Rattle.mctp.specs.declared.Tag.{Tag}
 use Rattle.mctp.specs.Terms.{tagOf, isOwner}
 use Rattle.slot.specs.declared.Reassembler.{Reassembler}
-use Rattle.slot.specs.Slot.{blankSlot, isDone, isReply, keptUnder, listed}
+use Rattle.slot.specs.Slot.{isDone, isReply, keptUnder, listed}
 use Rattle.slot.specs.Search.{earliest}
+use Rattle.slot.proofs.Searches.{earliest-hit}
 use Rattle.state.specs.declared.Sizes.{Sizes}
 use Rattle.state.specs.Stack.{Stack, slotAt}
 use Rattle.handles.specs.Handles.{Lookup, takeOf, bySourceOf}
@@ -63,23 +64,12 @@ fresh-timely z own mtu clock k = rw (fresh-slot z own mtu clock k) (omega arith)
 
 -- ---- a call that ends a message seeks it
 
--- what a lookup finds passes its test
-earliest-passes : (f : Reassembler → Bool) (l : List Reassembler) → earliest f l < length l → f (getD l (earliest f l) blankSlot) ≡ true
-unfolding earliest
-earliest-passes f [] = λ h. absurd (omega arith)
-earliest-passes f (s ∷ l) =
-    let on : P (suc (earliest f l)) = λ h. earliest-passes f l (omega arith) in
-    pick-cases P (λ _. pick-cases P (λ y. pick-cases P (λ _. pick-cases P (λ _. on) (λ _ _. y)) (λ _ _. y)) (λ _. on)) (λ _. on)
-  where
-    P : ℕ → Type 0
-    P n = n < suc (length l) → f (getD (s ∷ l) n blankSlot) ≡ true
-
 take-seeks : (f : Reassembler → Bool) (i : ℕ) (st : Stack) → tellsOf i (takeOf (earliest f (st .slots)) st .said) ≡ true → f (slotAt i st) ≡ true
 unfolding takeOf
 take-seeks f i st =
     let k = earliest f (st .slots) in
     pick-cases (λ (r : Lookup). tellsOf i (r .said) ≡ true → f (slotAt i st) ≡ true)
-    (λ q e. subst (λ (j : ℕ). f (slotAt j st) ≡ true) (eqb-true k i e) (earliest-passes f (st .slots) (ltb-true k (length (st .slots)) q)))
+    (λ q e. subst (λ (j : ℕ). f (slotAt j st) ≡ true) (eqb-true k i e) (earliest-hit f (st .slots) (ltb-true k (length (st .slots)) q) .1))
     (λ _ e. absurd (no-true e))
 
 source-seeks : (source : Eid) (tag : Tag) (i : ℕ) (st : Stack) → tellsOf i (bySourceOf source tag st .said) ≡ true
