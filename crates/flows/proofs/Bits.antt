@@ -1,5 +1,5 @@
 -- Bits of a number by halving: bit 0 is the remainder by 2, bit t + 1 is bit t of the half.
-use Prim.Native.Nat.{ℕ, zero, suc, _+_, _*_, _/_, _%_, _^_, _<_}
+use Prim.Native.Nat.{ℕ, zero, suc, _+_, _*_, _/_, _%_, _^_, _≤_, _<_}
 use native.Mathlib.Nat.{pow-suc, mul-comm, div-one, mod-lt}
 use native.Mathlib.Omega.{arith}
 use mathlib.Core.Path.{_≡_, refl, sym, ap, _∙_}
@@ -14,6 +14,10 @@ use Rattle.flows.specs.Tags.{isSet, setBit}
 pub bit-one : (b : Bool) → eqb (bit b 1) 1 ≡ b
 bit-one true = refl
 bit-one false = refl
+
+pub bit-small : (b : Bool) (n : ℕ) → bit b n ≤ n
+bit-small true n = omega arith
+bit-small false n = omega arith
 
 pub twice : (k : ℕ) → 2 ^ suc k ≡ 2 * 2 ^ k
 twice k = pow-suc 2 k ∙ mul-comm (2 ^ k) 2

@@ -17,7 +17,7 @@ use Rattle.flows.specs.declared.Expiry.{Expiry}
 use Rattle.flows.specs.declared.Expiry.the-variants.{Never, From}
 use Rattle.flows.specs.declared.Flow.{Flow}
 use Rattle.flows.specs.Table.{noFlow, isFlow}
-use Rattle.flows.proofs.Bits.{bit-one}
+use Rattle.flows.proofs.Bits.{bit-one, bit-small}
 use Rattle.flows.proofs.TableLaws.{is-flow, flow-is}
 use Rattle.flows.specs.Codec.{flowWidth, expiryNo, expiryStamp, expiryOf, flowBytes, flowOf, FlowOk, flowCodec, flowWord}
 
@@ -29,10 +29,6 @@ expiry-back (From s) = refl
 expiry-small : (e : Expiry) → expiryNo e < 2
 expiry-small Never = omega arith
 expiry-small (From s) = omega arith
-
-bit-small : (b : Bool) → bit b 1 < 2
-bit-small true = omega arith
-bit-small false = omega arith
 
 pub flow-long : (f : Flow) → length (flowBytes f) ≡ flowWidth
 unfolding flowBytes pack le
@@ -57,7 +53,7 @@ module _ (f : Flow) (ok : FlowOk f) where
   read : Read
   unfolding flowBytes pack le part top
   read = record {
-    used = num-le 1 _ (omega (arith, bit-small (f .used)));
+    used = num-le 1 _ (omega (arith, bit-small (f .used) 1));
     peer = num-le 1 _ (ok .peer);
     tag = num-le 1 _ (omega arith);
     has = num-le 1 _ (omega (arith, cookie-small (f .cookie)));
@@ -86,7 +82,7 @@ module _ (f : Flow) (ok : FlowOk f) where
   -- the first four bytes as one number
   pub flow-word : field 0 4 (flowBytes f) ≡ flowWord f
   unfolding flowBytes pack le part num
-  flow-word = let h = bit-small (f .used) in omega arith
+  flow-word = let h = bit-small (f .used) 1 in omega arith
 
 pub flow-lawful : Lawful flowCodec
 flow-lawful = record { long = flow-long; back = flow-back }
@@ -98,7 +94,7 @@ module _ (peer : Eid) (tag : TagValue) (f : Flow) (ok : FlowOk f) where
 
   pub is-word : peer .0 < 256 → tag .0 < 256 → flowWord f ≡ 1 + 256 * (peer .0 + 256 * tag .0) → isFlow peer tag f ≡ true
   is-word p t e =
-      let h = bit-small (f .used) in
+      let h = bit-small (f .used) 1 in
       let k = ok .peer in
       let m = ok .tag in
       flow-is peer tag f (record { used = bit-true (f .used) (omega arith); peer = omega arith; tag = omega arith })

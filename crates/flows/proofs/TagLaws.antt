@@ -1,8 +1,9 @@
 -- Laws of tags as bits of a byte: what the used-tag byte of a table says, how one more flow changes it, how many tags it leaves free, and what the
 -- search finds. Each holds by induction over the number of bits or of tags, with no case per tag.
-use Prim.Native.Nat.{ℕ, zero, suc, _+_, _-_, _*_, _/_, _%_, _^_, _≤_, _<_}
+use Prim.Native.Nat.{ℕ, zero, suc, _+_, _-_, _*_, _/_, _%_, _≤_, _<_}
 use native.Mathlib.Nat.{div-one, zero-add, add-zero, mod-lt, not-suc-le-zero}
 use native.Mathlib.Numerals.{add-one}
+use native.Mathlib.Decide.{ℕ-discrete}
 use native.Mathlib.Omega.{arith}
 use mathlib.Core.Path.{_≡_, refl, sym, ap, _∙_}
 use mathlib.Core.Bool.{Bool, true, false, not}
@@ -24,7 +25,7 @@ use Rattle.flows.specs.declared.TagFound.the-variants.{Free, NoneFree}
 use Rattle.flows.specs.Tags.{bitsOf, isSet, setBit, marked, turn, isFreeIn, freeTagOf, freeCount, countFree}
 use Rattle.flows.specs.Table.{noFlow, isFlow, standing, usedTags}
 use Rattle.octets.proofs.Finds.{find-hit, find-first, find-at, find-none, some-found, some-snoc}
-use Rattle.flows.proofs.Bits.{bit-one, twice, halved, set-halved}
+use Rattle.flows.proofs.Bits.{bit-one, halved, set-halved}
 
 -- ---- bits by a test
 
@@ -35,10 +36,6 @@ bit-low false m = omega arith
 bit-high : (b : Bool) (m : ℕ) → (bit b 1 + 2 * m) / 2 ≡ m
 bit-high true m = omega arith
 bit-high false m = omega arith
-
-bit-small : (b : Bool) (m p : ℕ) → m < p → bit b 1 + 2 * m < 2 * p
-bit-small true m p h = omega arith
-bit-small false m p h = omega arith
 
 bit-count : (b : Bool) (m k n : ℕ) → m + k ≡ n → (bit b 1 + m) + (bit (not b) 1 + k) ≡ suc n
 bit-count true m k n e = omega arith
@@ -58,11 +55,6 @@ bits-set f zero s (suc n) h = rw (div-one, bit-low (f s) (bitsOf f (s + 1) n), b
 bits-set f (suc k) s (suc n) h =
     let e : s + 1 + k ≡ s + suc k = omega arith in
     rw (halved k (bit (f s) 1 + 2 * bitsOf f (s + 1) n), bit-high (f s) (bitsOf f (s + 1) n)) (bits-set f k (s + 1) n (omega arith) ∙ ap f e)
-
-pub bits-small : (f : ℕ → Bool) (s n : ℕ) → bitsOf f s n < 2 ^ n
-unfolding bitsOf
-bits-small f s zero = omega arith
-bits-small f s (suc n) = rw (twice n) (bit-small (f s) _ _ (bits-small f (s + 1) n))
 
 -- tests that agree from s on give the same bits
 pub bits-same : (f g : ℕ → Bool) (s n : ℕ) → ((t : ℕ) → s ≤ t → f t ≡ g t) → bitsOf f s n ≡ bitsOf g s n
@@ -94,6 +86,23 @@ bits-count f s (suc n) =
     let m = bitsOf f (s + 1) n in
     rw (ones-step (bit (f s) 1 + 2 * m), bit-low (f s) m, bit-high (f s) m) (bit-count (f s) _ _ n (bits-count f (s + 1) n))
 
+-- none is left out where every one passes, some where one does not
+pub all-stand : (f : ℕ → Bool) (s n : ℕ) → ((t : ℕ) → s ≤ t → t < s + n → f t ≡ true) → countFree f s n ≡ 0
+unfolding countFree
+all-stand f s zero h = refl
+all-stand f s (suc n) h =
+    let e = h s (omega arith) (omega arith) in
+    ap (λ (b : Bool). bit (not b) 1 + countFree f (s + 1) n) e ∙ omega (arith, all-stand f (s + 1) n (λ t a b. h t (omega arith) (omega arith)))
+
+pub one-free : (f : ℕ → Bool) (s n t : ℕ) → s ≤ t → t < s + n → f t ≡ false → 0 < countFree f s n
+unfolding countFree
+one-free f s zero t a b e = absurd (omega arith)
+one-free f s (suc n) t a b e = go (ℕ-discrete s t) (λ l. one-free f (s + 1) n t l (omega arith) e)
+  where
+    go : Dec (s ≡ t) → (s + 1 ≤ t → 0 < countFree f (s + 1) n) → 0 < bit (not (f s)) 1 + countFree f (s + 1) n
+    go (yes q) h = rw (q, e) (omega arith)
+    go (no q) h = omega (arith, h (omega (arith, q)))
+
 -- ---- the used-tag byte of a table
 
 abbrev tagged : ℕ → TagValue
@@ -102,9 +111,6 @@ tagged t = record { 0 = t }
 -- bit t is set exactly when a flow of that peer and tag stands
 pub used-is : (peer : Eid) (t : ℕ) (flows : List Flow) → t < 8 → isSet t (usedTags peer flows) ≡ standing peer (record { 0 = t }) flows
 used-is peer t flows h = bits-set (λ t. standing peer (tagged t) flows) t 0 8 h ∙ ap (λ (k : ℕ). standing peer (tagged k) flows) (zero-add t)
-
-pub used-small : (peer : Eid) (flows : List Flow) → usedTags peer flows < 256
-used-small peer flows = bits-small (λ t. standing peer (tagged t) flows) 0 8
 
 pub used-none : (peer : Eid) → usedTags peer [] ≡ 0
 unfolding bitsOf find

@@ -20,7 +20,6 @@ pub mod Taking
 pub mod Runs
 pub mod Told
 pub mod Instances
-pub mod Bits
 pub mod ShutOut
 pub mod EndToEnd
 pub mod Figures

@@ -1,11 +1,10 @@
 -- A refused send: its number, and what it leaves of the stack. All this is found by going through the definition, test by test.
 -- What a send leaves does not depend on its MTU, so an MTU that is refused leaves what a good one does.
-use Prim.Native.Nat.{ℕ, zero, suc, _+_, _≤_, _<_}
-use native.Mathlib.Decide.{ℕ-discrete}
+use Prim.Native.Nat.{ℕ, _≤_, _<_}
 use native.Mathlib.Omega.{arith}
 use mathlib.Core.Path.{_≡_, refl, sym, ap, _∙_}
 use mathlib.Core.Logic.{inl, inr}
-use mathlib.Core.Bool.{Bool, true, false, not}
+use mathlib.Core.Bool.{Bool, true, false}
 use mathlib.Core.List.{List, [], _∷_}
 use lib.Dec.{ltb}
 use lib.ListN.{length}
@@ -18,14 +17,13 @@ use Rattle.mctp.specs.declared.TagValue.{TagValue}
 use Rattle.mctp.specs.declared.Tag.{Tag}
 use Rattle.mctp.specs.declared.Tag.the-variants.{Owned, Unowned}
 use Rattle.mctp.specs.Terms.{tagOf}
-use Rattle.mctp.specs.Header.{bit}
 use Rattle.mctp.specs.Answer.{refuses}
 use Rattle.flows.specs.declared.TagFound.{TagFound}
 use Rattle.flows.specs.declared.TagFound.the-variants.{Free, NoneFree}
 use Rattle.flows.specs.declared.Granted.the-variants.{Tag as Grant}
-use Rattle.flows.specs.Tags.{isSet, freeTagOf, countFree}
+use Rattle.flows.specs.Tags.{isSet, freeTagOf}
 use Rattle.flows.specs.Table.{Table, Flowed, isFree, standing, usedTags, counted, turned, insertFlow, withTag, freshFlow, fixedFlow, setFlow}
-use Rattle.flows.proofs.TagLaws.{free-counts, used-is, Told, searched}
+use Rattle.flows.proofs.TagLaws.{all-stand, one-free, free-counts, used-is, Told, searched}
 use Rattle.fragment.specs.declared.Started.{Started}
 use Rattle.fragment.specs.Step.{newOf}
 use Rattle.fragment.specs.Answers.{startedAs}
@@ -47,22 +45,6 @@ use Rattle.promises.proofs.Facts.{no-both}
 use Rattle.promises.proofs.Refused.{Says, refusal, sole, first-none, first-some}
 
 -- ---- free tags: none where all stand, some where one does not
-
-all-stand : (f : ℕ → Bool) (s n : ℕ) → ((t : ℕ) → s ≤ t → t < s + n → f t ≡ true) → countFree f s n ≡ 0
-unfolding countFree
-all-stand f s zero h = refl
-all-stand f s (suc n) h =
-    let e = h s (omega arith) (omega arith) in
-    ap (λ (b : Bool). bit (not b) 1 + countFree f (s + 1) n) e ∙ omega (arith, all-stand f (s + 1) n (λ t a b. h t (omega arith) (omega arith)))
-
-one-free : (f : ℕ → Bool) (s n t : ℕ) → s ≤ t → t < s + n → f t ≡ false → 0 < countFree f s n
-unfolding countFree
-one-free f s zero t a b e = absurd (omega arith)
-one-free f s (suc n) t a b e = go (ℕ-discrete s t) (λ l. one-free f (s + 1) n t l (omega arith) e)
-  where
-    go : Dec (s ≡ t) → (s + 1 ≤ t → 0 < countFree f (s + 1) n) → 0 < bit (not (f s)) 1 + countFree f (s + 1) n
-    go (yes q) h = rw (q, e) (omega arith)
-    go (no q) h = omega (arith, h (omega (arith, q)))
 
 module _ (peer : Eid) where
   none-left : (st : Stack) → ((t : ℕ) → t < 8 → isSet t (usedTags peer (st .flows)) ≡ true) → freeTagsOf peer st ≡ 0

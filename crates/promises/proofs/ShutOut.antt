@@ -22,6 +22,8 @@ use Rattle.mctp.specs.declared.HeaderRead.the-variants.{Good}
 use Rattle.mctp.specs.Header.{headerOf, lead}
 use Rattle.stamp.specs.declared.EventStamp.{EventStamp}
 use Rattle.stamp.specs.declared.Timeout.the-variants.{Left}
+use Rattle.flows.specs.Tags.{countFree}
+use Rattle.flows.proofs.TagLaws.{free-counts}
 use Rattle.flows.specs.Table.{noFlow, standing, flowTimeout}
 use Rattle.slot.specs.declared.State.{State}
 use Rattle.slot.specs.declared.State.the-variants.{Empty, Collecting, Done, HandleOut}
@@ -50,7 +52,6 @@ use Rattle.promises.proofs.Gate.{Source, collected, opens}
 use Rattle.promises.proofs.Outcome.{Took, Outcome, quiet, dropped, took, receive-outcome}
 use Rattle.promises.proofs.Fetch.{zero-takes}
 use Rattle.promises.proofs.HandOut.{hands-out, one-message}
-use Rattle.promises.proofs.Bits.{howMany, all-bits}
 
 -- ---- one that refuses all
 
@@ -140,7 +141,5 @@ not-before-eom B st room p g read n h e =
 -- ---- one that invents the free tags
 
 -- the free tags that are told are as many as the tags under which no flow of that peer stands
-pub told-free : (peer : Eid) (st : Stack) → freeTagsOf peer st ≡ howMany (λ t. not (standing peer (record { 0 = t }) (st .flows))) 0 8
-told-free peer st =
-    let e = all-bits (λ t. standing peer (record { 0 = t }) (st .flows)) 0 8 in
-    omega arith
+pub told-free : (peer : Eid) (st : Stack) → freeTagsOf peer st ≡ countFree (λ t. standing peer (record { 0 = t }) (st .flows)) 0 8
+told-free peer st = free-counts peer (st .flows)

@@ -10,6 +10,7 @@ use borrow.Author.Tests.{eq-eqb, ne-eqb}
 use Rattle.octets.specs.Bytes.{le, num, part, field, pack, puts, lay}
 use Rattle.octets.specs.Pick.{pick}
 use Rattle.octets.proofs.Number.{num-le, top, puts-lay}
+use Rattle.flows.proofs.Bits.{bit-small}
 use Rattle.octets.proofs.Region.{Lawful}
 use Rattle.mctp.specs.declared.TypeIC.{TypeIC}
 use Rattle.mctp.specs.Terms.{cookieNo, cookieValue}
@@ -36,10 +37,6 @@ state-small Empty = omega arith
 state-small Collecting = omega arith
 state-small Done = omega arith
 state-small (HandleOut n) = omega arith
-
-pub bit-small : (b : Bool) (n : ℕ) → bit b n ≤ n
-bit-small true n = omega arith
-bit-small false n = omega arith
 
 pub owner-back : (o : Bool) (t : ℕ) → t < 8 → eqb ((bit o 8 + t) / 8) 1 ≡ o
 owner-back true t h = eq-eqb ((8 + t) / 8) 1 (omega arith)
