@@ -1,6 +1,5 @@
 -- A cancel's walk over the slots: what it does at slot i, what is then left, and what is known on the way.
 use Prim.Native.Nat.{ℕ, suc, _+_, _≤_, _<_}
-use native.Mathlib.Omega.{arith}
 use mathlib.Core.Path.{_≡_, refl, sym, ap, _∙_}
 use mathlib.Core.Bool.{Bool, true, false}
 use mathlib.Core.List.{List, [], _∷_}
@@ -11,26 +10,10 @@ use Rattle.mctp.specs.declared.Eid.{Eid}
 use Rattle.mctp.specs.declared.TagValue.{TagValue}
 use Rattle.slot.specs.declared.Reassembler.{Reassembler}
 use Rattle.slot.specs.Slot.{blankSlot, isReply, handleTaken}
-use Rattle.state.specs.Slot.{SlotOk}
 use Rattle.state.specs.declared.Sizes.{Sizes}
 use Rattle.state.specs.Stack.{Kept, Becomes, stackOf, slotAt, withSlot, withSlots}
 use Rattle.slot_walks.specs.SlotWalks.{swept, blocked}
 use Rattle.state.proofs.PartLoops.{slotPart, Walked, walk-start, walk-next, walk-done, walk-stop, drop-here, drop-next, drop-end}
-
-pub blank-ok : (B : ℕ) → SlotOk B blankSlot
-blank-ok B = record {
-  dest = omega arith;
-  source = omega arith;
-  tag = omega arith;
-  typ = omega arith;
-  seq = omega arith;
-  len = omega arith;
-  wide = omega arith;
-  counter = omega arith;
-  clock = omega arith;
-  value = omega arith;
-  issue = omega arith;
-}
 
 -- the slot that a cancel's walk leaves
 abbrev pub sweptSlot : Eid → TagValue → Reassembler → Reassembler

@@ -25,7 +25,7 @@ use Rattle.state.specs.Layout.{headWidth, slotWidth, flowsAt, slotsAt, s
 use Rattle.state.specs.Head.{headCodec, headBytes, headOf, HeadOk}
 use Rattle.state.specs.Slot.{stateFrom, slotCodec, slotBytes, slotOf}
 use Rattle.state.specs.Stack.{Stack, stackOf, Kept, Becomes}
-use Rattle.state.proofs.SlotLaws.{slot-blank}
+use Rattle.state.proofs.SlotLaws.{blank-ok}
 
 -- a part of zeros
 part-zeros : (at w k : ℕ) → part at w (replicate (at + (w + k)) 0) ≡ replicate w 0
@@ -121,7 +121,7 @@ module _ (z : Sizes) (b : List ℕ) (sizes : SizesOk z) (zeros : take (size z) b
     long = let l = ap length zeros in let n = length-replicate {A = ℕ} (size z) 0 in omega (arith, simp length-take at l);
     head = zeros-hold (size z) b zeros headCodec blankHead head-dec head-enc head-blank 0 (omega arith);
     flows = zeros-regular (size z) b zeros flowCodec noFlow flow-dec blank-flow no-flow-ok flowCount flowsAt flows-in;
-    slots = zeros-regular (size z) b zeros (slotCodec (z .body)) blankSlot slot-dec slot-enc (slot-blank (z .body)) (z .slots) slotsAt slots-in;
+    slots = zeros-regular (size z) b zeros (slotCodec (z .body)) blankSlot slot-dec slot-enc (blank-ok (z .body)) (z .slots) slotsAt slots-in;
   }
 
   pub fresh-stack : stackOf z b ≡ freshStack z
@@ -129,7 +129,7 @@ module _ (z : Sizes) (b : List ℕ) (sizes : SizesOk z) (zeros : take (size z) b
   fresh-stack =
       let h : headOf (part 0 headWidth b) ≡ blankHead = ap headOf (zeros-part (size z) b zeros 0 headWidth (omega arith)) ∙ head-dec in
       let f = zeros-region (size z) b zeros flowCodec noFlow flow-dec blank-flow no-flow-ok flowCount flowsAt flows-in in
-      let s = zeros-region (size z) b zeros (slotCodec (z .body)) blankSlot slot-dec slot-enc (slot-blank (z .body)) (z .slots) slotsAt slots-in in
+      let s = zeros-region (size z) b zeros (slotCodec (z .body)) blankSlot slot-dec slot-enc (blank-ok (z .body)) (z .slots) slotsAt slots-in in
       λ i. record { head = h i; flows = f i; slots = s i }
 
 -- what `clear` leaves

@@ -120,8 +120,8 @@ module _ (B : ℕ) (s : Reassembler) (ok : SlotOk B s) where
   pub slot-progress : (seq len : ℕ) → seq ≡ field 5 1 (slotBytes s) → len ≡ field 6 2 (slotBytes s) → record { seq = seq; len = len } ≡ progressOf s
   slot-progress seq len p q = let r = read in let u = p ∙ r .seq in let v = q ∙ r .len in λ i. record { seq = u i; len = v i }
 
-pub slot-blank : (B : ℕ) → SlotOk B blankSlot
-slot-blank B = record {
+pub blank-ok : (B : ℕ) → SlotOk B blankSlot
+blank-ok B = record {
   dest = lit< tt;
   source = lit< tt;
   tag = lit< tt;

@@ -27,7 +27,7 @@ use Rattle.state.specs.Head.{headCodec, headBytes, headOf, HeadOk}
 use Rattle.state.specs.Slot.{slotCodec, slotBytes, slotOf, SlotOk}
 use Rattle.state.specs.Stack.{Stack, stackOf, encode, Kept, Becomes, withHead, withSlot, withFlow, slotAt, flowAt}
 use Rattle.state.proofs.HeadLaws.{head-long, head-lawful}
-use Rattle.state.proofs.SlotLaws.{slot-long, slot-lawful, slot-blank}
+use Rattle.state.proofs.SlotLaws.{slot-long, slot-lawful, blank-ok}
 
 -- where flow i and slot i start
 abbrev pub flowPlace : ℕ → ℕ
@@ -206,7 +206,7 @@ module _ (z : Sizes) (b : List ℕ) (k : Kept z b) where
   module _ (i : ℕ) where
     pub slot-ok : SlotOk (z .body) (slotAt i (stackOf z b))
     unfolding stackOf
-    slot-ok = block-ok (slotCodec (z .body)) (z .slots) slotsAt b blankSlot (k .slots) i (slot-blank (z .body))
+    slot-ok = block-ok (slotCodec (z .body)) (z .slots) slotsAt b blankSlot (k .slots) i (blank-ok (z .body))
 
     pub slot-past : z .slots ≤ i → slotAt i (stackOf z b) ≡ blankSlot
     unfolding stackOf
@@ -222,11 +222,11 @@ module _ (z : Sizes) (b : List ℕ) (k : Kept z b) where
 
     pub slot-read : (r : Reassembler) → i < z .slots → r ≡ slotOf (lentAs (slotPlace i) slotWidth b) → (r ≡ slotAt i (stackOf z b)) × SlotOk (z .body) r
     unfolding stackOf
-    slot-read = block-read (slotCodec (z .body)) (z .slots) slotsAt b blankSlot (k .slots) i (slot-blank (z .body))
+    slot-read = block-read (slotCodec (z .body)) (z .slots) slotsAt b blankSlot (k .slots) i (blank-ok (z .body))
 
     pub slot-none : (r : Reassembler) → z .slots ≤ i → r ≡ blankSlot → (r ≡ slotAt i (stackOf z b)) × SlotOk (z .body) r
     unfolding stackOf
-    slot-none = blank-read (slotCodec (z .body)) (z .slots) slotsAt b blankSlot (k .slots) i (slot-blank (z .body))
+    slot-none = blank-read (slotCodec (z .body)) (z .slots) slotsAt b blankSlot (k .slots) i (blank-ok (z .body))
 
     -- a store past the last slot stores nothing
     pub slot-stays : (s : Reassembler) → z .slots ≤ i → Becomes z b b (withSlot i s (stackOf z b))

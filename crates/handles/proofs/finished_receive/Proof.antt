@@ -1,6 +1,6 @@
 -- `finished_receive` stores an empty slot.
 use borrow.Author.Needs.{needs}
-use Rattle.slot_walks.proofs.SlotChecks.{blank-ok}
+use Rattle.state.proofs.SlotLaws.{blank-ok}
 use Rattle.handles.proofs.finished_receive.Statement.{statement}
 use Rattle.handles.proofs.finished_receive.Tie as tie
 

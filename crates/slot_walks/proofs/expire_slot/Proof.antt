@@ -2,7 +2,7 @@
 use mathlib.Core.Path.{sym, subst}
 use Rattle.slot.specs.declared.Reassembler.{Reassembler}
 use Rattle.state.specs.Slot.{SlotOk}
-use Rattle.slot_walks.proofs.SlotChecks.{blank-ok}
+use Rattle.state.proofs.SlotLaws.{blank-ok}
 use Rattle.state.proofs.PartLoops.{timedSlots, expire-gone, expire-stays}
 use borrow.Author.Needs.{needs}
 use Rattle.slot_walks.proofs.expire_slot.Statement.{statement}

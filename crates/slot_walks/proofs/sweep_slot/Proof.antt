@@ -6,7 +6,8 @@ use Rattle.slot.specs.Slot.{isReply, handleTaken}
 use Rattle.state.specs.Slot.{SlotOk}
 use Rattle.state.specs.Stack.{stackOf, slotAt}
 use Rattle.state.proofs.PartLoops.{slotPart, stored-as, same-stored}
-use Rattle.slot_walks.proofs.SlotChecks.{blank-ok, sweptSlot, stops, frees, passes}
+use Rattle.state.proofs.SlotLaws.{blank-ok}
+use Rattle.slot_walks.proofs.SlotChecks.{sweptSlot, stops, frees, passes}
 use borrow.Author.Needs.{needs}
 use Rattle.slot_walks.proofs.sweep_slot.Statement.{statement}
 use Rattle.slot_walks.proofs.sweep_slot.Tie as tie
