@@ -20,6 +20,7 @@ use Rattle.stamp.specs.declared.EventStamp.{EventStamp}
 use Rattle.stamp.specs.Stamp.{next, isExpired, lastCount}
 use Rattle.flows.specs.declared.Expiry.{Expiry}
 use Rattle.flows.specs.declared.Expiry.the-variants.{Never, From}
+use Rattle.stamp.proofs.Order.{next-clock}
 use Rattle.flows.specs.declared.Flow.{Flow}
 use Rattle.flows.specs.declared.Wish.{Wish}
 use Rattle.flows.specs.declared.Wish.the-variants.{Fresh, Fixed}
@@ -209,9 +210,7 @@ module _ (peer : Eid) (tag : TagValue) (expires : Bool) (cookie : Cookie) (s : E
       (λ _. record { peer = p; tag = t; value = v; clock = omega arith; counter = omega arith })
 
 pub counted-clock : (expires : Bool) (s : EventStamp) → counted expires s .clock ≡ s .clock
-unfolding next
-counted-clock expires s =
-    pick-cases (λ (r : EventStamp). r .clock ≡ s .clock) (λ _. pick-cases (λ (r : EventStamp). r .clock ≡ s .clock) (λ _. refl) (λ _. refl)) (λ _. refl)
+counted-clock expires s = pick-cases (λ (r : EventStamp). r .clock ≡ s .clock) (λ _. next-clock s) (λ _. refl)
 
 pub counted-counter : (expires : Bool) (s : EventStamp) → s .counter < 2 ^ 32 → counted expires s .counter < 2 ^ 32
 unfolding next
@@ -275,12 +274,6 @@ module _ (peer : Eid) (tag : TagValue) (expires : Bool) (cookie : Cookie) (t : T
       by-place (λ (l : List Flow). (standing peer tag l ≡ true) × (flowCookie peer tag l ≡ cookie))
       (λ _. (rw (e, length-set) y, ap (λ (j : ℕ). getD (set (t .flows) at new) j noFlow .cookie) e ∙ ap (λ (f : Flow). f .cookie) v ∙ new-cookie peer tag expires cookie s))
       (λ full. absurd (no-both y full))
-
-  pub insert-ok : AllOk (t .flows) → peer .0 < 256 → tag .0 < 8 → cookieValue cookie < 2 ^ 64 → t .now .clock < 2 ^ 64 → t .now .counter < 2 ^ 32
-      → AllOk after
-  insert-ok all p g v c n =
-      let ok = new-ok peer tag expires cookie (counted expires (t .now)) p g v (rw (counted-clock expires (t .now)) c) (counted-counter expires (t .now) n) in
-      by-place AllOk (λ _. all-ok-set (t .flows) at new all ok) (λ _. all)
 
 -- ---- what a send makes of the table
 

@@ -12,13 +12,12 @@ use Rattle.mctp.specs.declared.HeaderRead.{HeaderRead}
 use Rattle.mctp.specs.declared.HeaderRead.the-variants.{Good, Bad}
 use Rattle.mctp.specs.declared.Cookie.{Cookie}
 use Rattle.mctp.specs.Header.{headerOf}
-use Rattle.stamp.specs.declared.EventStamp.{EventStamp}
-use Rattle.stamp.specs.Stamp.{next}
+use Rattle.flows.proofs.TableLaws.{counted-clock}
 use Rattle.flows.specs.declared.Wish.{Wish}
 use Rattle.flows.specs.declared.Wish.the-variants.{Fresh as AnyTag, Fixed}
 use Rattle.flows.specs.declared.TagFound.{TagFound}
 use Rattle.flows.specs.declared.TagFound.the-variants.{Free, NoneFree}
-use Rattle.flows.specs.Table.{Table, Flowed, usedTags, counted, insertFlow, turned, withTag, freshFlow, fixedFlow, setFlow}
+use Rattle.flows.specs.Table.{Table, Flowed, usedTags, insertFlow, turned, withTag, freshFlow, fixedFlow, setFlow}
 use Rattle.flows.specs.Tags.{freeTagOf}
 use Rattle.reassemble.specs.declared.Gate.{Gate}
 use Rattle.reassemble.specs.declared.Gate.the-variants.{Shut, Pass}
@@ -37,10 +36,7 @@ use Rattle.sending.specs.declared.SendTag.{SendTag}
 use Rattle.sending.specs.declared.SendTag.the-variants.{Fresh, Owned, Unowned}
 use Rattle.receiving.specs.Receive.{Receipt, settled, land, countedOpening, gateOf, receiveAt, receiveBy, receiveOf}
 use Rattle.sending.specs.Sends.{Sent, ownedTag, tagFor, sendAs, sendTagged, startSendOf}
-
-pub next-clock : (s : EventStamp) → next s .clock ≡ s .clock
-unfolding next
-next-clock s = pick-cases (λ (r : EventStamp). r .clock ≡ s .clock) (λ _. refl) (λ _. refl)
+pub use Rattle.stamp.proofs.Order.{next-clock}
 
 -- ---- a receive
 
@@ -71,9 +67,6 @@ module _ (B : ℕ) (st : Stack) (p : List ℕ) where
       P r = r .stack .head .now .clock ≡ st .head .now .clock
 
 -- ---- a send
-
-counted-clock : (b : Bool) (s : EventStamp) → counted b s .clock ≡ s .clock
-counted-clock b s = pick-cases (λ (r : EventStamp). r .clock ≡ s .clock) (λ _. next-clock s) (λ _. refl)
 
 module _ (peer : Eid) (expires : Bool) (cookie : Cookie) where
   insert-clock : (tag : TagValue) (t : Table) → insertFlow peer tag expires cookie t .table .now .clock ≡ t .now .clock

@@ -7,7 +7,7 @@ use mathlib.Core.Bool.{Bool, true, false}
 use lib.Dec.{ltb}
 use borrow.Author.Tests.{lt-ltb, le-ltb, ltb-true, ltb-false}
 use Rattle.octets.proofs.Bools.{false-true, no-both, fails}
-use Rattle.octets.specs.Pick.{pick, pick-true, pick-false}
+use Rattle.octets.specs.Pick.{pick, pick-true, pick-false, pick-cases}
 use Rattle.stamp.specs.declared.EventStamp.{EventStamp}
 use Rattle.stamp.specs.Stamp.{earlier, next, lastCount}
 
@@ -105,3 +105,8 @@ not-earlier-trans a b c e f = fails (earlier a c) (λ g. go g (total a b))
     go g (inl h) = no-both h e
     go g (inr (inl h)) = no-both (sym (ap (λ (x : EventStamp). earlier x c) h) ∙ g) f
     go g (inr (inr h)) = no-both (is-earlier b c (record { order = chain b a c (earlier-is b a h .order) (earlier-is a c g .order) })) f
+
+-- an event leaves the clock
+pub next-clock : (s : EventStamp) → next s .clock ≡ s .clock
+unfolding next
+next-clock s = pick-cases (λ (r : EventStamp). r .clock ≡ s .clock) (λ _. refl) (λ _. refl)
