@@ -47,6 +47,7 @@ use Rattle.promises.specs.Calls.{Call, receive, elsewhere, update, start
 use Rattle.promises.specs.Refusals.{refusalsOf, placeOf, receiveNo, sendNo, cancelNo, saysNo, Among, Unstepped, still}
 use Rattle.promises.specs.RefusalTable.{asks, opens, table, ways, Met}
 use Rattle.promises.proofs.Facts.{no-true}
+use Rattle.promises.proofs.Quiet.{Kind, here, there, silent, kind}
 use Rattle.promises.proofs.Refused.{Says, Where, refusal, number, weaker, sole}
 use Rattle.promises.proofs.RefusedReceive.{Unreceived, received-says, unreceived}
 use Rattle.promises.proofs.RefusedSend.{Unsends, started-says}
@@ -200,23 +201,14 @@ new-refusals z room mtu n vs e =
 -- it changes no byte of the pool that we watch, whatever the call
 pub refused-buffers : (B : ℕ) (c : Call) (w : World) (n : ℕ) (vs : List ℕ) → performed B c w ≡ refuses n vs → step B c w .pool ≡ w .pool
 unfolding step
-refused-buffers B (receive p) w n vs e =
-    ap (λ (bytes : List ℕ). over (receipt B p w .at) bytes (w .pool)) (unreceived B (w .stack) (length (w .pool)) p n vs e .bytes)
-    ∙ over-nil (receipt B p w .at) (w .pool)
-refused-buffers B (elsewhere m p) w n vs e = refl
-refused-buffers B (update t) w n vs e = refl
-refused-buffers B (startSend q) w n vs e = refl
-refused-buffers B (cancelFlow peer tag) w n vs e = refl
-refused-buffers B (getDeferred source tag) w n vs e = refl
-refused-buffers B (getDeferredByCookie cookies) w n vs e = refl
-refused-buffers B (fetchMessage h m) w n vs e = refl
-refused-buffers B (finishedReceive h) w n vs e = refl
-refused-buffers B (returnHandle h) w n vs e = refl
-refused-buffers B (setCookie h cookie) w n vs e = refl
-refused-buffers B (setEid m) w n vs e = refl
-refused-buffers B eid w n vs e = refl
-refused-buffers B (isLocalDest p) w n vs e = refl
-refused-buffers B (freeTags peer) w n vs e = refl
+refused-buffers B c w n vs e = go c (kind B w c) e
+  where
+    go : (c : Call) → Kind B w c → performed B c w ≡ refuses n vs → step B c w .pool ≡ w .pool
+    go c (here p) e =
+        ap (λ (bytes : List ℕ). over (receipt B p w .at) bytes (w .pool)) (unreceived B (w .stack) (length (w .pool)) p n vs e .bytes)
+        ∙ over-nil (receipt B p w .at) (w .pool)
+    go c (there m p) e = refl
+    go c (silent s) e = s .pool
 
 -- and none of any other buffer that a receive is lent
 pub refused-bytes : (B : ℕ) (st : Stack) (room : ℕ) (p : List ℕ) (err : Error) → receiveOf B st room p .said ≡ Refused err → receiveOf B st room p .bytes ≡ []

@@ -22,11 +22,12 @@ use Rattle.receiving.specs.Conclude.{saidOf}
 use Rattle.slot.specs.Handle.{handleWords}
 use Rattle.receiving.specs.Receive.{Receipt, receiveOf}
 use Rattle.handles.specs.Handles.{messageIn}
-use Rattle.promises.specs.Calls.{Call, receive, elsewhere, update, startSend, cancelFlow, getDeferred, getDeferredByCookie, fetchMessage, finishedReceive, returnHandle, setCookie, setEid, eid, isLocalDest, freeTags, World, step, steps, receipt, performed, hasKey}
+use Rattle.promises.specs.Calls.{Call, receive, World, step, steps, receipt, performed, hasKey}
 use Rattle.promises.specs.Delivery.{readFrom, messageAt, allOf}
 use Rattle.promises.specs.History.{Taken, takes, note, noted, logged, history, lentHere, since, gathered, Exactly}
 use Rattle.promises.proofs.Facts.{no-both, no-true, and-left, and-right, same-refl}
 use Rattle.promises.proofs.Outcome.{Took, Outcome, quiet, dropped, took, receive-outcome}
+use Rattle.promises.proofs.Quiet.{Kind, here, there, silent, kind}
 use Rattle.promises.proofs.Fetch.{as-told}
 use Rattle.promises.proofs.Since.{since-all}
 use Rattle.promises.proofs.Story.{Story, Inv}
@@ -95,21 +96,12 @@ noted-here said st r p H a = pick-cases (λ (l : List Taken). lent l ≡ true) (
 
 logged-here : (B : ℕ) (c : Call) → lentHere c ≡ true → (w : World) (H : List Taken) → lent H ≡ true → lent (logged B c w H) ≡ true
 unfolding logged noted
-logged-here B (receive p) q w H a = noted-here (receipt B p w .said) (w .stack) (headerOf p) p H a
-logged-here B (elsewhere n p) q w H a = absurd (no-true q)
-logged-here B (update t) q w H a = a
-logged-here B (startSend m) q w H a = a
-logged-here B (cancelFlow peer tag) q w H a = a
-logged-here B (getDeferred source tag) q w H a = a
-logged-here B (getDeferredByCookie cookies) q w H a = a
-logged-here B (fetchMessage h n) q w H a = a
-logged-here B (finishedReceive h) q w H a = a
-logged-here B (returnHandle h) q w H a = a
-logged-here B (setCookie h cookie) q w H a = a
-logged-here B (setEid n) q w H a = a
-logged-here B eid q w H a = a
-logged-here B (isLocalDest p) q w H a = a
-logged-here B (freeTags peer) q w H a = a
+logged-here B c q w H a = go c (kind B w c) q
+  where
+    go : (c : Call) → Kind B w c → lentHere c ≡ true → lent (logged B c w H) ≡ true
+    go c (here p) q = noted-here (receipt B p w .said) (w .stack) (headerOf p) p H a
+    go c (there n p) q = absurd (no-true q)
+    go c (silent s) q = rw (s .log H) a
 
 history-here : (B : ℕ) (cs : List Call) → allOf lentHere cs ≡ true → (w : World) (H : List Taken) → lent H ≡ true → lent (history B cs w H) ≡ true
 unfolding history

@@ -33,7 +33,7 @@ use Rattle.slot.specs.declared.ReceiveHandle.{ReceiveHandle}
 use Rattle.receiving.specs.declared.Received.the-variants.{Message as Told}
 use Rattle.slot.specs.Handle.{handleWords}
 use Rattle.receiving.specs.Receive.{Receipt, settled, land, countedOpening, gateOf, receiveAt, receiveBy, receiveOf}
-use Rattle.promises.specs.Calls.{Call, receive, elsewhere, update, startSend, cancelFlow, getDeferred, getDeferredByCookie, fetchMessage, finishedReceive, returnHandle, setCookie, setEid, eid, isLocalDest, freeTags, World, step, steps, receipt, performed, hasKey}
+use Rattle.promises.specs.Calls.{Call, receive, World, step, steps, receipt, performed, hasKey}
 use Rattle.promises.specs.Delivery.{Message, messageAt, allOf}
 use Rattle.promises.specs.History.{Taken, takes, note, noted, logged, history, lentHere, since, gathered, follows, numbered, Opens}
 use Rattle.promises.proofs.Facts.{no-both, no-true, and-left, and-right, and-both, same-refl, same-key, is-false}
@@ -141,21 +141,12 @@ noted-read B st room lent p H a = pick-cases (Each Read) (λ y. go y (headerOf p
 
 logged-read : (B : ℕ) (c : Call) (w : World) (H : List Taken) → Each Read H → Each Read (logged B c w H)
 unfolding logged
-logged-read B (receive p) w H a = noted-read B (w .stack) (length (w .pool)) true p H a
-logged-read B (elsewhere n p) w H a = noted-read B (w .stack) n false p H a
-logged-read B (update t) w H a = a
-logged-read B (startSend q) w H a = a
-logged-read B (cancelFlow peer tag) w H a = a
-logged-read B (getDeferred source tag) w H a = a
-logged-read B (getDeferredByCookie cookies) w H a = a
-logged-read B (fetchMessage h n) w H a = a
-logged-read B (finishedReceive h) w H a = a
-logged-read B (returnHandle h) w H a = a
-logged-read B (setCookie h cookie) w H a = a
-logged-read B (setEid n) w H a = a
-logged-read B eid w H a = a
-logged-read B (isLocalDest p) w H a = a
-logged-read B (freeTags peer) w H a = a
+logged-read B c w H a = go c (kind B w c)
+  where
+    go : (c : Call) → Kind B w c → Each Read (logged B c w H)
+    go c (here p) = noted-read B (w .stack) (length (w .pool)) true p H a
+    go c (there n p) = noted-read B (w .stack) n false p H a
+    go c (silent s) = rw (s .log H) a
 
 history-read : (B : ℕ) (cs : List Call) (w : World) (H : List Taken) → Each Read H → Each Read (history B cs w H)
 unfolding history

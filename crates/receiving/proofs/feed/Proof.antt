@@ -8,7 +8,7 @@ use Rattle.slot.specs.declared.Reassembler.{Reassembler}
 use Rattle.slot.specs.Slot.{blankSlot}
 use Rattle.slot.specs.Handle.{nextIssue}
 use Rattle.slot.proofs.HandleLaws.{issue-fits}
-use Rattle.slot_walks.proofs.SlotChecks.{blank-ok}
+use Rattle.state.proofs.SlotLaws.{blank-ok}
 use Rattle.state.specs.Stack.{Stack, stackOf, ticked, withSlot}
 use Rattle.state.proofs.StackLaws.{head-ok}
 use Rattle.state.proofs.Steps.{becomes-as}
