@@ -20,8 +20,9 @@ use Rattle.slot.specs.declared.State.the-variants.{Collecting}
 use Rattle.slot.specs.declared.Reassembler.{Reassembler}
 use Rattle.reassemble.specs.declared.Gate.{Gate}
 use Rattle.reassemble.specs.declared.Gate.the-variants.{Shut, Pass}
-use Rattle.slot.specs.Slot.{blankSlot, isEmpty, emptyState, collects}
+use Rattle.slot.specs.Slot.{blankSlot, isEmpty, isDone, handleTaken, emptyState, collects}
 use Rattle.slot.specs.Search.{slotFor}
+use Rattle.slot.proofs.Searches.{found-open}
 use Rattle.reassemble.specs.Enter.{opening as admits, opened, gate, gateEmpty, gateReply}
 use Rattle.state.specs.Stack.{Stack, slotAt}
 use Rattle.receiving.specs.Receive.{gateOf}
@@ -33,6 +34,11 @@ use Rattle.promises.proofs.Slots.{collects-state, collects-key, not-in,
 pub data Source (l : List Reassembler) (i : ℕ) (h : Header) : Type 0 where
   collected : collects (h .key) (getD l i blankSlot) ≡ true → Source l i h
   opens : isEmpty (getD l i blankSlot) ≡ true → h .som ≡ true → ((k : ℕ) → collects (h .key) (getD l k blankSlot) ≡ false) → Source l i h
+
+-- there no handle is out and nothing is done
+pub lands-open : (l : List Reassembler) (i : ℕ) (h : Header) → Source l i h → (isDone (getD l i blankSlot) ≡ false) × (handleTaken (getD l i blankSlot) ≡ false)
+lands-open l i h (collected c) = found-open (Good h) (getD l i blankSlot) (inl c)
+lands-open l i h (opens e y n) = found-open (Good h) (getD l i blankSlot) (inr e)
 
 -- ---- the slot that is found
 

@@ -1,54 +1,42 @@
 -- Wrong stacks (docs/PROMISES.md, "Shut out"): for each there is a statement that no stack of these definitions is one. The one on the remaining time stands in `updating`.
-use Prim.Native.Nat.{ℕ, _-_, _≤_, _<_}
-use native.Mathlib.Omega.{arith}
-use mathlib.Core.Path.{_≡_, refl, sym, ap, _∙_, subst}
-use mathlib.Core.Logic.{_⊎_, inl, inr}
-use mathlib.Core.Bool.{Bool, true, false, not}
+use Prim.Native.Nat.{ℕ, _≤_}
+use mathlib.Core.Path.{_≡_, refl, sym, ap, _∙_}
+use mathlib.Core.Bool.{Bool, true, false}
 use mathlib.Core.List.{List, [], _∷_}
 use lib.Dec.{ltb}
 use lib.ListN.{length, getD}
 use lib.Seq.{getD-set-same}
-use borrow.Author.Tests.{ltb-true, le-ltb}
-use Rattle.config.specs.Config.{interval}
-use Rattle.octets.specs.Pick.{pick, pick-false, pick-cases}
+use borrow.Author.Tests.{le-ltb}
+use Rattle.octets.specs.Pick.{pick, pick-false}
 use Rattle.mctp.specs.declared.Eid.{Eid}
 use Rattle.mctp.specs.declared.Key.{Key}
 use Rattle.mctp.specs.declared.MsgType.{MsgType}
 use Rattle.mctp.specs.declared.MsgIC.{MsgIC}
-use Rattle.mctp.specs.declared.Error.the-variants.{InvalidInput}
 use Rattle.mctp.specs.Answer.{answerNo}
 use Rattle.mctp.specs.declared.Header.{Header}
 use Rattle.mctp.specs.declared.HeaderRead.the-variants.{Good}
 use Rattle.mctp.specs.Header.{headerOf, lead}
 use Rattle.stamp.specs.declared.EventStamp.{EventStamp}
-use Rattle.stamp.specs.declared.Timeout.the-variants.{Left}
 use Rattle.flows.specs.Tags.{countFree}
 use Rattle.flows.proofs.TagLaws.{free-counts}
-use Rattle.flows.specs.Table.{noFlow, standing, flowTimeout}
-use Rattle.slot.specs.declared.State.{State}
-use Rattle.slot.specs.declared.State.the-variants.{Empty, Collecting, Done, HandleOut}
+use Rattle.flows.specs.Table.{standing}
 use Rattle.slot.specs.declared.Reassembler.{Reassembler}
-use Rattle.slot.specs.Slot.{blankSlot, emptyState, outState, slotTimeout}
+use Rattle.slot.specs.Slot.{blankSlot, outState}
 use Rattle.reassemble.specs.Enter.{appended}
 use Rattle.fragment.specs.declared.Fragmenter.{Fragmenter}
 use Rattle.fragment.specs.Cutting.{bodyIn}
 use Rattle.fragment.specs.Step.{Step, packetFor, emitted, stepOf}
-use Rattle.state.specs.Stack.{Stack, slotAt, flowAt}
+use Rattle.state.specs.Stack.{Stack, slotAt}
 use Rattle.slot.specs.declared.ReceiveHandle.{ReceiveHandle}
 use Rattle.receiving.specs.declared.Received.the-variants.{Message as Told}
-use Rattle.updating.specs.declared.Updated.the-variants.{Next, Refused}
 use Rattle.receiving.specs.Conclude.{saidOf}
 use Rattle.receiving.specs.Receive.{Receipt, receiveOf}
-use Rattle.stamp.specs.Checks.{leastLeft}
-use Rattle.state.specs.Times.{slotTimes}
-use Rattle.updating.specs.Update.{Update, leastOf, checked, updateOf}
 use Rattle.estack.specs.Basics.{freeTagsOf}
 use Rattle.promises.specs.Calls.{World, Call, receive, step, receipt}
 use Rattle.promises.specs.Delivery.{Message, Delivers, Lawful}
 use Rattle.promises.specs.History.{takes}
-use Rattle.promises.proofs.Facts.{no-both, no-true}
-use Rattle.promises.proofs.Slots.{collects-state}
-use Rattle.promises.proofs.Gate.{Source, collected, opens}
+use Rattle.promises.proofs.Facts.{no-both}
+use Rattle.promises.proofs.Gate.{lands-open}
 use Rattle.promises.proofs.Outcome.{Took, Outcome, quiet, dropped, took, receive-outcome}
 use Rattle.promises.proofs.Fetch.{zero-takes}
 use Rattle.promises.proofs.HandOut.{hands-out, one-message}
@@ -90,17 +78,6 @@ said-eom : (b : Bool) (i n : ℕ) (h : ReceiveHandle) → saidOf b i n ≡ Told 
 said-eom true i n h e = refl
 said-eom false i n h e = let z : false ≡ true = cc in z
 
-empty-idle : (f : State) → emptyState f ≡ true → outState f ≡ false
-empty-idle Empty e = refl
-empty-idle Collecting e = refl
-empty-idle Done e = refl
-empty-idle (HandleOut n) e = absurd (no-true e)
-
--- the slot that a closing packet fills had no handle out
-source-idle : (l : List Reassembler) (i : ℕ) (h : Header) → Source l i h → outState (getD l i blankSlot .state) ≡ false
-source-idle l i h (collected c) = ap outState (collects-state (h .key) (getD l i blankSlot) c)
-source-idle l i h (opens e y n) = empty-idle (getD l i blankSlot .state) e
-
 out-now : (b : Bool) (now : EventStamp) (issue n : ℕ) (s : Reassembler) → b ≡ true → outState (appended b now issue n s .state) ≡ true
 unfolding pick
 out-now b now issue n s e = rw e
@@ -124,7 +101,7 @@ changes B p w h e same =
     ap (λ (x : Stack). slotAt i x) (sym same) ∙ ap (λ (l : List Reassembler). getD l i blankSlot) (t .slots) ∙ getD-set-same (w .stack .slots) i s blankSlot (t .found) in
     no-both (outState (slotAt i (w .stack) .state))
     (ap (λ (x : Reassembler). outState (x .state)) now ∙ out-now (g .eom) (t .now) (t .issue) (length (bodyIn p)) (t .base) (said-eom (g .eom) i (t .issue) h (sym (t .said) ∙ e)))
-    (source-idle (w .stack .slots) i g (t .source))
+    (lands-open (w .stack .slots) i g (t .source) .1)
 
 -- ---- one that hands a message out at SOM and merely nods afterwards
 

@@ -9,7 +9,7 @@ use mathlib.Core.Bool.{Bool, true, false}
 use mathlib.Core.List.{List, [], _∷_}
 use lib.ListN.{length, getD, set, length-set, length-map}
 use lib.Seq.{getD-set-other, getD-set-same, set-out}
-use borrow.Author.Tests.{ltb-true, ltb-false}
+use borrow.Author.Tests.{eqb-true, ltb-true, ltb-false}
 use Rattle.octets.specs.Pick.{pick-cases}
 use Rattle.mctp.specs.declared.Eid.{Eid}
 use Rattle.mctp.specs.declared.TagValue.{TagValue}
@@ -78,11 +78,11 @@ module _ (P : Reassembler → Type 0) (st : Stack) where
 
 -- ---- by a handle: one whose handle is out
 
-out-of : (m : ℕ) (f : State) → issueIs m f ≡ true → outState f ≡ true
+pub out-of : (m : ℕ) (f : State) → issueIs m f ≡ true → f ≡ HandleOut m
 out-of m Empty e = absurd (no-true e)
 out-of m Collecting e = absurd (no-true e)
 out-of m Done e = absurd (no-true e)
-out-of m (HandleOut n) e = refl
+out-of m (HandleOut n) e = ap HandleOut (eqb-true n m e)
 
 pub out-idle : (f : State) → outState f ≡ true → collectingState f ≡ false
 out-idle Empty e = refl
@@ -94,7 +94,7 @@ good-out : (h : ReceiveHandle) (st : Stack) → isGood h st ≡ true → handleT
 unfolding isGood
 good-out h st =
     pick-cases (λ (b : Bool). b ≡ true → handleTaken (slotAt (h .index) st) ≡ true)
-    (λ _ e. out-of (h .issue) (slotAt (h .index) st .state) e) (λ _ e. absurd (no-true e))
+    (λ _ e. ap outState (out-of (h .issue) (slotAt (h .index) st .state) e)) (λ _ e. absurd (no-true e))
 
 pub handled-touches : (f : Reassembler → Reassembler) → ((s : Reassembler) → handleTaken s ≡ true → collectingState (f s .state) ≡ false)
     → (h : ReceiveHandle) (st : Stack) → Touches (λ s. handleTaken s ≡ true) st (handled f h st .stack)

@@ -55,7 +55,8 @@ open-state test d o Collecting e = (refl, refl)
 open-state test d o Done e = absurd (no-both e d)
 open-state test d o (HandleOut n) e = absurd (no-both e (o n))
 
-found-open : (r : HeaderRead) (s : Reassembler) → FoundFor r s → (isDone s ≡ false) × (handleTaken s ≡ false)
+-- such a slot is not done, and has no handle out
+pub found-open : (r : HeaderRead) (s : Reassembler) → FoundFor r s → (isDone s ≡ false) × (handleTaken s ≡ false)
 found-open Bad s e = open-state emptyState refl (λ _. refl) (s .state) e
 found-open (Good h) s (inl e) = open-state (λ st. collectsIn st (sameKey (s .key) (h .key))) refl (λ _. refl) (s .state) e
 found-open (Good h) s (inr e) = open-state emptyState refl (λ _. refl) (s .state) e

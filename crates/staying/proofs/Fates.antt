@@ -26,7 +26,7 @@ use Rattle.stamp.specs.declared.Timeout.{Timeout}
 use Rattle.slot.specs.declared.State.{State}
 use Rattle.slot.specs.declared.State.the-variants.{Empty, Collecting, Done, HandleOut}
 use Rattle.slot.specs.declared.Reassembler.{Reassembler}
-use Rattle.slot.specs.Slot.{blankSlot, outState, doneState, emptyState, handleTaken, handleIs, isDone, isReply, keptUnder, listed, timeIn, fadedSlot, withState, withSlotCookie}
+use Rattle.slot.specs.Slot.{blankSlot, outState, doneState, handleTaken, handleIs, isDone, isReply, keptUnder, listed, timeIn, fadedSlot, withState, withSlotCookie}
 use Rattle.slot.specs.Search.{earliest}
 use Rattle.slot.proofs.Searches.{earliest-hit}
 use Rattle.reassemble.specs.Enter.{appended}
@@ -46,8 +46,8 @@ use Rattle.updating.specs.Update.{Update, checked, updateOf}
 use Rattle.estack.specs.Basics.{eidSet, cancelOf}
 use Rattle.promises.specs.Calls.{Call, receive, elsewhere, update, startSend, cancelFlow, getDeferred, getDeferredByCookie, fetchMessage, finishedReceive, returnHandle, setCookie, setEid, eid, isLocalDest, freeTags, World, step}
 use Rattle.promises.proofs.Facts.{no-both, no-true, and-both}
-use Rattle.promises.proofs.Slots.{not-in, parts}
-use Rattle.promises.proofs.Gate.{Source, collected, opens}
+use Rattle.promises.proofs.Slots.{parts}
+use Rattle.promises.proofs.Gate.{lands-open}
 use Rattle.promises.proofs.Outcome.{Base, Outcome, quiet, dropped, took, receive-outcome}
 use Rattle.promises.proofs.Clock.{send-same}
 use Rattle.promises.proofs.Walks.{faded-blank, swept-count}
@@ -71,17 +71,6 @@ done-in s d = go (s .state) d
     go Collecting e = refl
     go Done e = refl
     go (HandleOut n) e = absurd (no-true e)
-
--- the slot where a packet lands has no handle out, and is not done
-pub lands-open : (l : List Reassembler) (i : ℕ) (h : Header) → Source l i h → (isDone (getD l i blankSlot) ≡ false) × (handleTaken (getD l i blankSlot) ≡ false)
-lands-open l i h (collected d) = (not-in (h .key) (getD l i blankSlot) d doneState refl, not-in (h .key) (getD l i blankSlot) d outState refl)
-lands-open l i h (opens v y f) = empty (getD l i blankSlot .state) v
-  where
-    empty : (f : State) → emptyState f ≡ true → (doneState f ≡ false) × (outState f ≡ false)
-    empty Empty e = (refl, refl)
-    empty Collecting e = absurd (no-true e)
-    empty Done e = absurd (no-true e)
-    empty (HandleOut n) e = absurd (no-true e)
 
 -- a packet stamps its slot with the clock, or leaves its stamp
 base-early : (st : Stack) (i : ℕ) (h : Header) (p : List ℕ) (s : Reassembler) → Base st i h p s → slotAt i st .stamp .clock ≤ st .head .now .clock

@@ -36,15 +36,14 @@ use Rattle.updating.specs.Update.{checked, updateOf}
 use Rattle.estack.specs.Basics.{cancelOf}
 use Rattle.promises.specs.Calls.{Call, receive, elsewhere, update, startSend, cancelFlow, getDeferred, getDeferredByCookie, fetchMessage, finishedReceive, returnHandle, setCookie, setEid, eid, isLocalDest, freeTags, World, step, steps}
 use Rattle.promises.specs.Delivery.{Message, readFrom, messageAt, Hands, allOf}
-use Rattle.promises.proofs.Facts.{no-both, no-true, and-left, and-right, and-both, is-false}
-use Rattle.promises.proofs.Pool.{bodyAt}
-use Rattle.promises.proofs.Walks.{faded-blank}
+use Rattle.promises.proofs.Facts.{no-both, no-true, and-left, and-right, is-false}
+use Rattle.promises.proofs.Walks.{out-of, faded-blank}
 use Rattle.promises.proofs.Quiet.{in-time as young}
 use Rattle.promises.proofs.Stale.{good-is}
 use Rattle.staying.specs.Staying.{spares, tellsOf, checksAt, walksTo, ends, untouched, doneThrough, tells, Fetches}
 use Rattle.staying.proofs.Fates.{done-in, Fate, stays, goes, found, named, filled, fates}
 use Rattle.staying.proofs.Tail.{Whole, whole-stays, room-stays}
-use Rattle.staying.proofs.Stays.{held-stays, kept-short, handed-held, Holds, of, out-of, message-by, fetch-good, handled-slot}
+use Rattle.staying.proofs.Stays.{held-stays, kept-short, handed-held, Holds, message-by, fetch-good, handled-slot}
 
 -- ---- one call
 

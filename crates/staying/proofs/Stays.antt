@@ -7,15 +7,14 @@ use mathlib.Core.Bool.{Bool, true, false}
 use mathlib.Core.List.{List, [], _∷_}
 use lib.ListN.{length, getD, replicate}
 use lib.Seq.{getD-set-same}
-use borrow.Author.Tests.{eqb-true, le-ltb, ltb-false, not-true}
+use borrow.Author.Tests.{le-ltb, ltb-false, not-true}
 use Rattle.octets.specs.Pick.{pick, pick-true, pick-cases}
 use Rattle.mctp.specs.declared.Eid.{Eid}
 use Rattle.mctp.specs.Answer.{gives}
 use Rattle.mctp.specs.declared.Cookie.{Cookie}
-use Rattle.slot.specs.declared.State.{State}
-use Rattle.slot.specs.declared.State.the-variants.{Empty, Collecting, Done, HandleOut}
+use Rattle.slot.specs.declared.State.the-variants.{HandleOut}
 use Rattle.slot.specs.declared.Reassembler.{Reassembler}
-use Rattle.slot.specs.Slot.{blankSlot, outState, issueIs, handleTaken, handleIs, withSlotCookie}
+use Rattle.slot.specs.Slot.{blankSlot, outState, handleTaken, handleIs, withSlotCookie}
 use Rattle.reassemble.specs.Enter.{appended}
 use Rattle.fragment.specs.Cutting.{bodyIn}
 use Rattle.state.specs.declared.Sizes.{Sizes}
@@ -37,6 +36,7 @@ use Rattle.promises.specs.History.{takes}
 use Rattle.promises.proofs.Facts.{no-both, no-true, and-left, and-right}
 use Rattle.promises.proofs.Slots.{passes-in, parts}
 use Rattle.promises.proofs.Pool.{bodyAt, slot-le}
+use Rattle.promises.proofs.Walks.{out-of}
 use Rattle.promises.proofs.Issues.{issue-some}
 use Rattle.promises.proofs.Outcome.{Outcome, quiet, dropped, took, receive-outcome}
 use Rattle.promises.proofs.Fetch.{as-told}
@@ -47,12 +47,6 @@ use Rattle.staying.proofs.Fates.{done-in, Fate, stays, goes, found, nam
 use Rattle.staying.proofs.Tail.{Whole, whole-stays, room-stays}
 
 -- ---- a handle that is out
-
-pub out-of : (m : ℕ) (f : State) → issueIs m f ≡ true → f ≡ HandleOut m
-out-of m Empty e = absurd (no-true e)
-out-of m Collecting e = absurd (no-true e)
-out-of m Done e = absurd (no-true e)
-out-of m (HandleOut n) e = ap HandleOut (eqb-true n m e)
 
 -- two handles that are out in the same slot are the same
 one-handle : (h k : ReceiveHandle) (s : Reassembler) → k .index ≡ h .index → handleIs (h .issue) s ≡ true → handleIs (k .issue) s ≡ true → k ≡ h

@@ -35,7 +35,8 @@ use Rattle.promises.proofs.Outcome.{Base, Took, Outcome, quiet, dropped, took, 
 use Rattle.promises.proofs.Quiet.{Kind, here, there, silent, kind}
 use Rattle.promises.proofs.Runs.{takes-said}
 use Rattle.staying.specs.Staying.{tailOf, lengthBefore, Appends, PartAfter, same, appends}
-use Rattle.staying.proofs.Fates.{lands-open, fates}
+use Rattle.promises.proofs.Gate.{lands-open}
+use Rattle.staying.proofs.Fates.{fates}
 
 -- ---- one receive
 
