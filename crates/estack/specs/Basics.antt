@@ -3,7 +3,7 @@
 -- Leans on `mctp` for EIDs, on `state` for the stack, on `slot_walks` for a cancel's walk.
 use Prim.Native.Nat.{ℕ}
 use mathlib.Core.Path.{_≡_}
-use mathlib.Core.Bool.{Bool, true, false}
+use mathlib.Core.Bool.{Bool}
 use mathlib.Core.List.{List}
 use lib.Dec.{ltb}
 use lib.ListN.{replicate}
@@ -13,7 +13,6 @@ use Rattle.mctp.specs.declared.Eid.{Eid}
 use Rattle.mctp.specs.declared.EidRead.{EidRead}
 use Rattle.mctp.specs.declared.EidRead.the-variants.{Normal, Refused as NotNormal}
 use Rattle.mctp.specs.declared.TagValue.{TagValue}
-use Rattle.mctp.specs.declared.Error.{Error}
 use Rattle.mctp.specs.declared.Error.the-variants.{InvalidInput, NoSpace, BadArgument}
 use Rattle.mctp.specs.Terms.{normalEid}
 use Rattle.flows.specs.Table.{noFlow, removed, usedTags}

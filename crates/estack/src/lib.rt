@@ -2,11 +2,10 @@
 // Here are `new`, the EIDs, `cancel_flow` and `free_tags`; the other calls are passed on from their crates. Definitions: specs/Basics.antt.
 // Leans on `state` for the layout, on `slot_walks` and `flow_walks` for walks, on `sending`, `receiving`, `updating` and `handles` for their calls.
 ghost use mathlib.Core.Path.{_≡_};
-ghost use Prim.Native.Nat.{_+_, _≤_, _<_};
 ghost use lib.ListN.{length};
 ghost use Rattle.state.specs.Head.{withOwn};
 ghost use Rattle.state.specs.Stack.{Kept, Becomes, stackOf, withHead};
-ghost use Rattle.estack.specs.Basics.{freshStack, newSays, NewMakes, setEidOf, localOf, cancelOf, freeTagsOf};
+ghost use Rattle.estack.specs.Basics.{newSays, NewMakes, setEidOf, localOf, cancelOf, freeTagsOf};
 pub use handles::Deferred;
 pub use handles::Done;
 pub use handles::Fetched;

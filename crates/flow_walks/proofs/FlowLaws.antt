@@ -1,25 +1,21 @@
 -- Laws of the walks over the flows: the word that tells which peer and tag a place belongs to, and the next event.
 use Prim.Native.Nat.{_+_, _*_, _<_, ℕ}
-use native.Mathlib.Omega.{arith}
-use mathlib.Core.Path.{_≡_, refl, sym, subst, _∙_}
+use mathlib.Core.Path.{_≡_, sym, _∙_}
 use mathlib.Core.List.{List}
 use borrow.Author.Tests.{eq-eqb, ne-eqb}
-use lib.ListN.{length, getD}
-use Rattle.octets.specs.Pick.{pick-cases}
+use lib.ListN.{getD}
 use Rattle.octets.specs.Find.{find}
 use Rattle.octets.proofs.Bools.{no-both, bool-cases}
 use Rattle.octets.proofs.Finds.{find-ext}
 use Rattle.mctp.specs.declared.Eid.{Eid}
 use Rattle.mctp.specs.declared.TagValue.{TagValue}
-use Rattle.stamp.specs.declared.EventStamp.{EventStamp}
-use Rattle.stamp.specs.Stamp.{next}
 use Rattle.flows.specs.declared.Flow.{Flow}
 use Rattle.flows.specs.Codec.{FlowOk, flowWord}
 use Rattle.flows.specs.Table.{noFlow, isFlow, flowPlace}
 use Rattle.flows.proofs.CodecLaws.{word-is, is-word}
 use Rattle.state.specs.declared.Sizes.{Sizes}
-use Rattle.state.specs.Stack.{Stack, Kept, Becomes, stackOf}
-use Rattle.state.proofs.StackLaws.{flows-length, flow-ok}
+use Rattle.state.specs.Stack.{Kept, stackOf}
+use Rattle.state.proofs.StackLaws.{flow-ok}
 use Rattle.flow_walks.specs.FlowWalks.{hasFlowWord}
 
 pub word-flow : (peer : Eid) (tag : TagValue) (f : Flow) → FlowOk f → peer .0 < 256 → tag .0 < 256

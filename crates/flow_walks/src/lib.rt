@@ -3,7 +3,7 @@
 // Leans on `state` for the bytes and for events, on `flows` for one flow's part, on `stamp` for the check of time.
 ghost use mathlib.Core.Path.{_≡_};
 ghost use mathlib.Core.List.{map, _∷_, []};
-ghost use Prim.Native.Nat.{_+_, _≤_, _<_, _^_};
+ghost use Prim.Native.Nat.{_≤_, _<_};
 ghost use Rattle.config.specs.Config.{flowCount};
 ghost use Rattle.octets.specs.Find.{find};
 ghost use Rattle.flows.specs.Table.{isFree, flowPlace, removed, usedTags, flowTimeout, fadedFlow, insertFlow, counted as countedBy, freshFlow, fixedFlow, setFlow};

@@ -2,7 +2,6 @@
 // Definitions: specs/Handles.antt.
 // Leans on `slot_walks` for the search of the earliest message, on `slot` for the count of handles, on `state` for the bytes.
 ghost use mathlib.Core.Path.{_≡_};
-ghost use Prim.Native.Nat.{_+_, _≤_, _<_};
 ghost use lib.ListN.{length};
 ghost use Rattle.state.specs.Slot.{SlotOk};
 ghost use Rattle.state.specs.Stack.{Kept, Becomes, stackOf};

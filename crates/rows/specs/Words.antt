@@ -3,7 +3,7 @@
 -- Leans on the records of `mctp`, `fragment` and `sending`.
 use Prim.Native.Nat.{ℕ, _%_}
 use mathlib.Core.Bool.{Bool, true, false}
-use mathlib.Core.List.{List, [], _∷_}
+use mathlib.Core.List.{List}
 use lib.Dec.{ltb, eqb}
 use lib.ListN.{getD, set}
 use Rattle.octets.specs.Pick.{pick}

@@ -11,7 +11,6 @@ pub use answers::put_received;
 pub use answers::put_started;
 pub use answers::put_step;
 ghost use mathlib.Core.Path.{_≡_};
-ghost use Prim.Native.Nat.{_≤_, _<_};
 ghost use Rattle.mctp.specs.Answer.{flagWord};
 ghost use Rattle.fragment.specs.Answers.{wordsOf};
 ghost use Rattle.slot.specs.Handle.{handleWords};

@@ -3,7 +3,6 @@
 // Definitions: specs/Sends.antt.
 // Leans on `flow_walks` for the flows in the state's bytes, on `fragment` for the fragmenter that comes out.
 ghost use mathlib.Core.Path.{_≡_};
-ghost use Prim.Native.Nat.{min};
 ghost use Rattle.state.specs.Stack.{Kept, Becomes, stackOf};
 ghost use Rattle.sending.specs.Sends.{badTag, mtuOf, sendUnder, ownedTag, tagFor, startSendOf};
 use flows::Granted;

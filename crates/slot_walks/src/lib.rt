@@ -3,7 +3,7 @@
 // Leans on `state` for the bytes, on `slot` for one slot's part, on `stamp` for the check of time.
 ghost use mathlib.Core.Path.{_≡_};
 ghost use mathlib.Core.List.{map, _∷_, []};
-ghost use Prim.Native.Nat.{_+_, _≤_, _<_};
+ghost use Prim.Native.Nat.{_≤_, _<_};
 ghost use lib.ListN.{getD};
 ghost use Rattle.octets.specs.Find.{find};
 ghost use Rattle.slot.specs.Slot.{blankSlot, isEmpty, collects, keptUnder, listed, slotTimeout, fadedSlot};

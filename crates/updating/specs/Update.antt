@@ -2,7 +2,7 @@
 -- and no. Otherwise slots and flows expire, and the next check is planned after the least of 100 and every remaining time. The planned check stops at 2^64 - 1.
 -- Leans on `state` for the remaining times, on `stamp` for what a check finds, on `flows` and `slot` for what expires.
 use Prim.Native.Nat.{ℕ, _+_, _-_, min}
-use mathlib.Core.Bool.{Bool, true, false}
+use mathlib.Core.Bool.{Bool, false}
 use mathlib.Core.List.{[], _∷_, map}
 use lib.Dec.{ltb}
 use Rattle.config.specs.Config.{interval}

@@ -2,7 +2,7 @@
 // Definitions: specs/Update.antt.
 // Leans on `slot_walks` and `flow_walks` for what expires, on `state` for the clock and the planned check, on `stamp` for what a check finds.
 ghost use mathlib.Core.Path.{_≡_};
-ghost use Prim.Native.Nat.{_+_, _≤_, _<_, min};
+ghost use Prim.Native.Nat.{_+_, _≤_};
 ghost use Rattle.config.specs.Config.{interval};
 ghost use Rattle.state.specs.Head.{withNow, withPlanned};
 ghost use Rattle.state.specs.Stack.{Kept, Becomes, stackOf, withHead};

@@ -1,6 +1,5 @@
 -- `expire_flows` is a check of time over the flows (`Checked`).
 use Prim.Native.Nat.{_-_}
-use denote.Ref.{now}
 use Rattle.config.specs.Config.{flowCount}
 use Rattle.state.proofs.PartLoops.{timedFlows, Checked, check-start, check-next, check-done, check-length}
 use borrow.Author.Needs.{needs}

@@ -1,6 +1,5 @@
 -- `expire_slots` is a check of time over the slots (`Checked`).
 use Prim.Native.Nat.{_-_}
-use denote.Ref.{now}
 use Rattle.state.proofs.PartLoops.{timedSlots, Checked, check-start, check-next, check-done, check-length}
 use borrow.Author.Needs.{needs}
 use Rattle.slot_walks.proofs.expire_slots.Statement.{statement}
