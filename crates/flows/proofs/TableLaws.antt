@@ -28,7 +28,7 @@ use Rattle.flows.specs.declared.TagFound.{TagFound}
 use Rattle.flows.specs.declared.TagFound.the-variants.{Free, NoneFree}
 use Rattle.flows.specs.Tags.{freeTagOf}
 use Rattle.flows.specs.Table.{noFlow, isFree, isFlow, flowPlace, standing, flowCookie, removed, usedTags, lasts, lastsBy, timeBy, newFlow, Table, Flowed, counted, insertFlow, turned, withTag, freshFlow, fixedFlow, setFlow, flowTimeout, fadedFlow, Unique}
-use Rattle.flows.specs.Codec.{FlowOk, AllOk}
+use Rattle.flows.specs.Codec.{FlowOk}
 use Rattle.octets.proofs.Bools.{no-both, bool-cases}
 use Rattle.octets.proofs.Each.{getD-set, getD-mapped}
 use Rattle.octets.proofs.Finds.{find-hit, find-first, find-at, find-set, passes-in}
@@ -143,25 +143,15 @@ unique-set l i x unique apart p u a b ya yb =
     moved : {f g : Flow} → f ≡ g → isFlow p u f ≡ true → isFlow p u g ≡ true
     moved e y = ap (isFlow p u) (sym e) ∙ y
 
-pub all-ok-set : (l : List Flow) (i : ℕ) (x : Flow) → AllOk l → FlowOk x → AllOk (set l i x)
-unfolding AllOk
-all-ok-set l i x all ok j h = ⊎-elim (λ v. rw (v .1) ok) (λ e. rw e (all j (rw length-set at h))) (getD-set l i j x noFlow)
-
 pub no-flow-ok : FlowOk noFlow
 no-flow-ok = record { peer = omega arith; tag = omega arith; value = omega arith; clock = omega arith; counter = omega arith }
 
 -- ---- a removal
 
 module _ (peer : Eid) (tag : TagValue) (flows : List Flow) where
-  pub removed-length : length (removed peer tag flows) ≡ length flows
-  removed-length = length-set flows (flowPlace peer tag flows) noFlow
-
   pub removed-unique : Unique flows → Unique (removed peer tag flows)
   removed-unique unique =
       unique-set flows (flowPlace peer tag flows) noFlow unique (λ p u j y _. absurd (no-both y (free-not p u noFlow refl)))
-
-  pub removed-ok : AllOk flows → AllOk (removed peer tag flows)
-  removed-ok all = all-ok-set flows (flowPlace peer tag flows) noFlow all no-flow-ok
 
   pub removed-gone : Unique flows → standing peer tag (removed peer tag flows) ≡ false
   unfolding Unique
@@ -242,9 +232,6 @@ module _ (peer : Eid) (tag : TagValue) (expires : Bool) (cookie : Cookie) (t : T
   unfolding insertFlow
   by-place P room full = pick-cases (λ (r : Flowed). P (r .table .flows)) room full
 
-  pub insert-length : length after ≡ length (t .flows)
-  insert-length = by-place (λ (l : List Flow). length l ≡ length (t .flows)) (λ _. length-set (t .flows) at new) (λ _. refl)
-
   pub insert-others : (p : Eid) (u : TagValue) → Other peer tag p u → Same p u (t .flows) after
   insert-others p u o =
       by-place (Same p u (t .flows))
@@ -315,17 +302,8 @@ module _ (peer : Eid) (expires : Bool) (cookie : Cookie) (t : Table) where
   by-insert P (Fixed tag) same ins =
       pick-cases (λ (r : Flowed). P (r .table .flows)) (λ _. same) (λ n. fixed P tag same (ins tag (t .counter) (omega (arith, ltb-false))))
 
-  -- the number of places stays
-  pub set-flow-length : (wish : Wish) → length (setFlow peer wish expires cookie t .table .flows) ≡ length (t .flows)
-  set-flow-length wish = by-insert (λ (l : List Flow). length l ≡ length (t .flows)) wish refl (λ tag n _ _. insert-length peer tag expires cookie (with n))
-
   pub set-flow-unique : (wish : Wish) → Unique (t .flows) → Unique (setFlow peer wish expires cookie t .table .flows)
   set-flow-unique wish unique = by-insert Unique wish unique (λ tag n _ free. insert-unique peer tag expires cookie (with n) free unique)
-
-  pub set-flow-ok : (wish : Wish) → AllOk (t .flows) → peer .0 < 256 → cookieValue cookie < 2 ^ 64 → t .now .clock < 2 ^ 64
-      → t .now .counter < 2 ^ 32 → AllOk (setFlow peer wish expires cookie t .table .flows)
-  set-flow-ok wish all p v c k =
-      by-insert AllOk wish all (λ tag n b _. insert-ok peer tag expires cookie (with n) all p b v c k)
 
 -- ---- time
 
@@ -354,10 +332,6 @@ module _ (now : ℕ) where
     pub faded-unique : Unique flows → Unique (map (fadedFlow now) flows)
     unfolding Unique
     faded-unique unique p u i j yi yj = unique p u i j (faded-from p u i yi) (faded-from p u j yj)
-
-    pub faded-ok : AllOk flows → AllOk (map (fadedFlow now) flows)
-    unfolding AllOk fadedFlow
-    faded-ok all j h = rw (faded-at j) (pick-cases FlowOk (λ _. no-flow-ok) (λ _. all j (rw faded-length at h)))
 
     -- a flow that is not expired stands as before
     pub faded-stands : (p : Eid) (u : TagValue) → standing p u flows ≡ true

@@ -4,7 +4,6 @@
 use Prim.Native.Nat.{ℕ, _+_, _*_, _^_, _<_}
 use mathlib.Core.List.{List, [], _∷_}
 use lib.Dec.{eqb}
-use lib.ListN.{length, getD}
 use Rattle.octets.specs.Pick.{pick}
 use Rattle.octets.specs.Bytes.{field, pack}
 use Rattle.octets.specs.Region.{Codec}
@@ -14,7 +13,6 @@ use Rattle.stamp.specs.declared.EventStamp.{EventStamp}
 use Rattle.flows.specs.declared.Expiry.{Expiry}
 use Rattle.flows.specs.declared.Expiry.the-variants.{Never, From}
 use Rattle.flows.specs.declared.Flow.{Flow}
-use Rattle.flows.specs.Table.{noFlow}
 
 abbrev pub flowWidth : ℕ
 flowWidth = 32
@@ -59,10 +57,6 @@ pub record FlowOk (f : Flow) : Type 0 where
   pub value : cookieValue (f .cookie) < 2 ^ 64
   pub clock : expiryStamp (f .expiry) .clock < 2 ^ 64
   pub counter : expiryStamp (f .expiry) .counter < 2 ^ 32
-
--- the flow at each place has its ranges
-unfoldable pub AllOk : List Flow → Type 0
-AllOk flows = (i : ℕ) → i < length flows → FlowOk (getD flows i noFlow)
 
 abbrev pub flowCodec : Codec Flow
 flowCodec = record { width = flowWidth; enc = flowBytes; dec = flowOf; Ok = FlowOk }

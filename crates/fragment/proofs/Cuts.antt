@@ -88,11 +88,6 @@ module _ (typ : MsgType) (src dest : Eid) (tag : Tag) (mtu : ℕ) (cookie : Cook
       never : {x : Error} → Refused x ≡ Sends f → IsNew typ src dest tag mtu cookie ic seq f
       never e = let z : _≡_ {A = ℕ} 0 1 = cc in absurd (omega arith)
 
-  pub new-sound : newOf typ src dest tag mtu cookie ic seq ≡ Sends f → Sound f
-  new-sound e =
-      let n = new-is e in
-      subst Sound (n .same) (n .sound)
-
 pub next-sound : (f : Fragmenter) (k : ℕ) (eom : Bool) → Sound f → Sound (advancedBy f k eom)
 next-sound f k eom s = record { seq = omega arith; tag = s .tag; typ = s .typ; least = s .least; most = s .most }
 

@@ -6,7 +6,7 @@ use mathlib.Core.List.{List, [], _++_}
 use lib.ListN.{length}
 use Rattle.octets.specs.Bytes.{part}
 use Rattle.octets.proofs.Tests.{picks}
-use Rattle.mctp.specs.declared.Error.the-variants.{InvalidInput, NoSpace}
+use Rattle.mctp.specs.declared.Error.the-variants.{NoSpace}
 use Rattle.mctp.specs.Header.{headerBytes, lead, intro, typeByte}
 use Rattle.fragment.specs.declared.Fragmenter.{Fragmenter}
 use Rattle.fragment.specs.declared.SendOutput.the-variants.{Complete}
@@ -23,10 +23,6 @@ module _ (f : Fragmenter) (payload : List ℕ) (n : ℕ) where
   pub step-small : f .done ≡ false → n < lead (f .first) → stepOf f payload n ≡ refused f NoSpace
   unfolding stepOf
   step-small d s = search picks
-
-  pub step-short : f .done ≡ false → lead (f .first) ≤ n → length payload < f .«payload_used» → stepOf f payload n ≡ refused f InvalidInput
-  unfolding stepOf
-  step-short d s u = search picks
 
   pub step-emits : f .done ≡ false → lead (f .first) ≤ n → f .«payload_used» ≤ length payload → stepOf f payload n ≡ emitted f payload n
   unfolding stepOf

@@ -2,15 +2,14 @@
 -- byte 3 SOM, EOM, sequence, TO and tag; with SOM byte 4 holds IC and type. Reserved bits are encoded as 0 and ignored when read.
 -- Leans on `pick` alone.
 use Prim.Native.Nat.{ℕ, _+_, _*_, _/_, _%_, _<_}
-use mathlib.Core.List.{List, [], _∷_, _++_}
+use mathlib.Core.List.{List, [], _∷_}
 use mathlib.Core.Bool.{Bool, true, false}
-use lib.ListN.{length, getD, drop}
+use lib.ListN.{length, getD}
 use lib.Dec.{ltb, eqb}
 use Rattle.octets.specs.Pick.{pick}
 use Rattle.mctp.specs.declared.MsgType.{MsgType}
 use Rattle.mctp.specs.declared.MsgIC.{MsgIC}
 use Rattle.mctp.specs.declared.TypeIC.{TypeIC}
-use Rattle.mctp.specs.declared.Key.{Key}
 use Rattle.mctp.specs.declared.Header.{Header}
 use Rattle.mctp.specs.declared.HeaderRead.{HeaderRead}
 use Rattle.mctp.specs.declared.HeaderRead.the-variants.{Good, Bad}
@@ -57,10 +56,6 @@ typeOf b = record { typ = record { 0 = b % 128 }; ic = record { 0 = eqb (b / 128
 abbrev pub intro : Bool → ℕ → List ℕ → List ℕ
 intro true kind body = kind ∷ body
 intro false kind body = body
-
--- a whole packet
-abbrev pub packetOf : Header → ℕ → List ℕ → List ℕ
-packetOf h kind body = headerBytes h ++ intro (h .som) kind body
 
 -- a header whose fields have their widths
 pub record HeaderOk (h : Header) : Type 0 where

@@ -81,15 +81,6 @@ module _ {A : Type 0} (p : A → Bool) where
   find-set (x ∷ l) zero y d e = rw e
   find-set (x ∷ l) (suc i) y d e = rw (find-set l i y d e)
 
-  -- after a store of an element that passes, with none before it that does, its place is the place found
-  pub find-set-here : (l : List A) (i : ℕ) (y : A) → i < length l → i ≤ find p l → p y ≡ true → find p (set l i y) ≡ i
-  unfolding find pick
-  find-set-here [] i y m h t = absurd (omega arith)
-  find-set-here (x ∷ l) zero y m h t = rw t
-  find-set-here (x ∷ l) (suc i) y m h t =
-      let f : p x ≡ false = find-first (x ∷ l) 0 x (omega arith) in
-      rw f (ap suc (find-set-here l i y (omega arith) (omega (arith, rw f at h)) t))
-
   -- whether any element passes
   unfoldable pub some : List A → Bool
   some [] = false

@@ -120,13 +120,6 @@ puts-lay at (f ∷ fs) b =
     let w = length-le (f .0) (f .1) in
     rw (puts-lay (at + f .0) fs (lay at (le (f .0) (f .1)) b), lay-lay at (at + f .0) (le (f .0) (f .1)) (pack fs) b (omega arith))
 
-pub puts-pack : (at : ℕ) (fs : List (ℕ × ℕ)) (b : List ℕ) → at + length (pack fs) ≤ length b → puts at fs b ≡ over at (pack fs) b
-puts-pack at fs b h = puts-lay at fs b ∙ lay-fits at (pack fs) b h
-
--- the same, for a row that fills a whole block
-pub puts-whole : (fs : List (ℕ × ℕ)) (b : List ℕ) → length (pack fs) ≡ length b → puts 0 fs b ≡ pack fs
-puts-whole fs b e = puts-pack 0 fs b (omega arith) ∙ over-whole (length b) (pack fs) b e refl
-
 -- a number read from `&b[at..at + w]`, and one stored to `&mut b[at..at + w]`, which comes back as e
 pub window-read : (at w : ℕ) (b : List ℕ) {x : ℕ} → x ≡ num (part 0 w (take ((at + w) - at) (drop at b))) → at + w ≤ length b → x ≡ num (part at w b)
 window-read at w b q h = q ∙ rw (lent at w b, part-whole w (part at w b) (length-part at w b h))

@@ -136,13 +136,6 @@ lent-front at v b h u =
 
 -- ---- bytes laid over a buffer, as far as they fit
 
-pub length-lay : (at : ℕ) (s b : List ℕ) → length (lay at s b) ≡ length b
-unfolding lay
-length-lay at s [] = refl
-length-lay zero [] (y ∷ b) = refl
-length-lay zero (x ∷ s) (y ∷ b) = ap suc (length-lay zero s b)
-length-lay (suc at) s (y ∷ b) = ap suc (length-lay at s b)
-
 pub lay-nil : (at : ℕ) (b : List ℕ) → lay at [] b ≡ b
 unfolding lay
 lay-nil at [] = refl

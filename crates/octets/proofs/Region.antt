@@ -3,8 +3,8 @@ use Prim.Native.Nat.{ℕ, zero, suc, _+_, _*_, _≤_, _<_}
 use native.Mathlib.Nat.{add-zero, mul-suc, mul-zero}
 use native.Mathlib.Omega.{arith}
 use mathlib.Core.Path.{_≡_, refl, sym, ap}
-use mathlib.Core.List.{List, [], _∷_}
-use lib.ListN.{length, getD, set, take, replicate}
+use mathlib.Core.List.{List}
+use lib.ListN.{length, getD, set}
 use Rattle.octets.specs.Bytes.{part, over}
 use Rattle.octets.specs.Region.{Codec, place, region, Holds, Regular, bytes}
 use Rattle.octets.proofs.Part.{part-same, part-below, part-above, part-add}
@@ -115,26 +115,3 @@ module _ {A : Type 0} (C : Codec A) where
   regular-bytes (suc n) at b r =
       let e : place (C .width) (0 + C .width) n ≡ C .width + place (C .width) 0 n = rw (place-is (C .width) (0 + C .width) n, place-is (C .width) 0 n) (omega arith) in
       rw (e, part-add at (C .width) (place (C .width) 0 n) b, regular-bytes n (at + C .width) b (r .1), ← r .0 .same)
-
-take-zeros : (n m : ℕ) → n ≤ m → take {A = ℕ} n (replicate m 0) ≡ replicate n 0
-take-zeros zero m h = refl
-take-zeros (suc n) zero h = absurd (omega arith)
-take-zeros (suc n) (suc m) h = ap (λ (l : List ℕ). 0 ∷ l) (take-zeros n m (omega arith))
-
-part-zeros : (at w m : ℕ) → at + w ≤ m → part at w (replicate m 0) ≡ replicate w 0
-unfolding part
-part-zeros zero w m h = take-zeros w m (omega arith)
-part-zeros (suc at) w zero h = absurd (omega arith)
-part-zeros (suc at) w (suc m) h = part-zeros at w m (omega arith)
-
--- a buffer of zeros is regular where zeros are the bytes of an element
-module _ {A : Type 0} (C : Codec A) (same : C .enc (C .dec (replicate (C .width) 0)) ≡ replicate (C .width) 0) (ok : C .Ok (C .dec (replicate (C .width) 0))) where
-  pub zeros-hold : (at m : ℕ) → at + C .width ≤ m → Holds C at (replicate m 0)
-  zeros-hold at m h = record { same = rw (part-zeros at (C .width) m h) (sym same); ok = rw (part-zeros at (C .width) m h) ok }
-
-  pub zeros-regular : (n at m : ℕ) → place (C .width) at n ≤ m → Regular C n at (replicate m 0)
-  unfolding Regular place
-  zeros-regular zero at m h = tt
-  zeros-regular (suc n) at m h =
-      let u : at + C .width ≤ place (C .width) (at + C .width) n = place-up (C .width) (at + C .width) n in
-      (zeros-hold at m (omega arith), zeros-regular n (at + C .width) m h)

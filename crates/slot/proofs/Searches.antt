@@ -12,7 +12,7 @@ use lib.ListN.{length, getD, drop, length-drop}
 use lib.Seq.{drop-cons, getD-drop, drop-length}
 use borrow.Author.Tests.{ltb-true, ltb-false, lt-ltb}
 use Rattle.octets.specs.Pick.{pick, pick-cases}
-use Rattle.octets.proofs.Finds.{find-bound, find-hit}
+use Rattle.octets.proofs.Finds.{find-hit}
 use Rattle.mctp.specs.declared.HeaderRead.{HeaderRead}
 use Rattle.mctp.specs.declared.HeaderRead.the-variants.{Good, Bad}
 use Rattle.mctp.specs.Terms.{sameKey}
@@ -30,13 +30,6 @@ use Rattle.stamp.proofs.Order.{earlier-irreflexive, earlier-asymmetric, not-ear
 abbrev pub FoundFor : HeaderRead → Reassembler → Type 0
 FoundFor (Good h) s = (collects (h .key) s ≡ true) ⊎ (isEmpty s ≡ true)
 FoundFor Bad s = isEmpty s ≡ true
-
--- a slot's index, or the number of slots
-pub slot-for-bound : (r : HeaderRead) (slots : List Reassembler) → slotFor r slots ≤ length slots
-unfolding slotFor
-slot-for-bound Bad slots = find-bound isEmpty slots
-slot-for-bound (Good h) slots =
-    pick-cases (λ (n : ℕ). n ≤ length slots) (λ _. find-bound (collects (h .key)) slots) (λ _. find-bound isEmpty slots)
 
 -- below the number of slots, the slot there collects the header's key or is empty
 pub slot-for-hit : (r : HeaderRead) (slots : List Reassembler) → slotFor r slots < length slots → FoundFor r (getD slots (slotFor r slots) blankSlot)
@@ -132,10 +125,6 @@ module _ (f : Reassembler → Bool) where
   earliest-some (s ∷ l) zero q = earliest-cases (λ (n : ℕ). n < suc (length l)) s l (λ _ _. zero-lt-suc (length l)) (λ g. suc-le-suc (g q .0))
   earliest-some (s ∷ l) (suc k) q =
       earliest-cases (λ (n : ℕ). n < suc (length l)) s l (λ _ _. zero-lt-suc (length l)) (λ _. suc-le-suc (earliest-some l k q))
-
-  -- where none is found, no slot is done and passes
-  pub earliest-none : (l : List Reassembler) → length l ≤ earliest f l → (k : ℕ) → Passes (getD l k blankSlot) → ⊥
-  earliest-none l h k q = let m = earliest-some l k q in omega arith
 
   -- no slot that is done and passes has an earlier stamp
   pub earliest-least : (l : List Reassembler) (k : ℕ) → Passes (getD l k blankSlot) → earlier (stampAt l k) (stampAt l (earliest f l)) ≡ false

@@ -1,9 +1,7 @@
 -- A slot's state by its number: `is_empty` and the tests like it are those of the definitions.
 -- Each law goes through the four states.
-use Prim.Native.Nat.{ℕ}
-use native.Mathlib.Omega.{arith}
 use mathlib.Core.Path.{_≡_, refl}
-use mathlib.Core.Bool.{Bool, true, false}
+use mathlib.Core.Bool.{Bool, true}
 use lib.Dec.{eqb}
 use Rattle.octets.proofs.Bools.{false-true}
 use Rattle.mctp.specs.declared.Key.{Key}
@@ -31,20 +29,6 @@ out-three Empty = refl
 out-three Collecting = refl
 out-three Done = refl
 out-three (HandleOut n) = refl
-
--- in state 1 the key decides
-pub one-collects : (s : State) (same : Bool) → stateNo s ≡ 1 → collectsIn s same ≡ same
-one-collects Empty same e = absurd (omega arith)
-one-collects Collecting same e = refl
-one-collects Done same e = absurd (omega arith)
-one-collects (HandleOut n) same e = absurd (omega arith)
-
--- a slot in any other state matches nothing
-pub others-match-nothing : (s : State) (same : Bool) → (stateNo s ≡ 1 → ⊥) → collectsIn s same ≡ false
-others-match-nothing Empty same e = refl
-others-match-nothing Collecting same e = absurd (e refl)
-others-match-nothing Done same e = refl
-others-match-nothing (HandleOut n) same e = refl
 
 same-in : (s : State) (same : Bool) → collectsIn s same ≡ true → same ≡ true
 same-in Empty same e = false-true e

@@ -21,7 +21,7 @@ use Rattle.stamp.specs.Stamp.{timeoutOf, isExpired}
 use Rattle.slot.specs.declared.State.{State}
 use Rattle.slot.specs.declared.State.the-variants.{Empty, Collecting, Done, HandleOut}
 use Rattle.slot.specs.declared.Reassembler.{Reassembler}
-use Rattle.slot.specs.Slot.{blankSlot, outState, isDone, isEmpty, handleTaken, handleIs, isReply, keptUnder, listed, timeIn, slotTimeout, fadedSlot, withState}
+use Rattle.slot.specs.Slot.{blankSlot, outState, isDone, handleTaken, handleIs, isReply, keptUnder, listed, timeIn, slotTimeout, fadedSlot, withState}
 use Rattle.slot.specs.Search.{earliest}
 use Rattle.state.specs.declared.Sizes.{Sizes}
 use Rattle.state.specs.Stack.{Stack, Kept, stackOf, slotAt}
@@ -40,7 +40,7 @@ use Rattle.promises.proofs.Facts.{no-both, no-true, and-left, and-right, is-fal
 use Rattle.promises.proofs.Walks.{out-of, faded-blank}
 use Rattle.promises.proofs.Quiet.{in-time as young}
 use Rattle.promises.proofs.Stale.{good-is}
-use Rattle.staying.specs.Staying.{spares, tellsOf, checksAt, walksTo, ends, untouched, doneThrough, tells, Fetches}
+use Rattle.staying.specs.Staying.{spares, tellsOf, checksAt, walksTo, ends, untouched, tells, Fetches}
 use Rattle.staying.proofs.Fates.{done-in, Fate, stays, goes, found, named, filled, fates}
 use Rattle.staying.proofs.Tail.{Whole, whole-stays, room-stays}
 use Rattle.staying.proofs.Stays.{held-stays, kept-short, handed-held, Holds, message-by, fetch-good, handled-slot}
@@ -186,36 +186,6 @@ pub kept-returned : (z : Sizes) (b : List ℕ) → Kept z b → (pool : List ℕ
     → (isDone (slotAt i (steps (z .body) calls w .stack)) ≡ true) × (messageAt (z .body) i (steps (z .body) calls w) ≡ messageAt (z .body) i w)
 kept-returned z b ok pool i calls d rests = returned-stays (z .body) i calls (record { stack = stackOf z b; pool = pool }) d (kept-short z b ok i) rests
 
-through-first : (B i : ℕ) (calls : List Call) (w : World) → doneThrough B i calls w ≡ true → isDone (slotAt i (w .stack)) ≡ true
-unfolding doneThrough
-through-first B i [] w e = e
-through-first B i (c ∷ cs) w e = and-left (isDone (slotAt i (w .stack))) (doneThrough B i cs (step B c w)) e
-
--- while it is there with no handle out, no call has ended it
-pub through-untouched : (B i : ℕ) (calls : List Call) (w : World) → doneThrough B i calls w ≡ true → untouched B i calls w ≡ true
-unfolding doneThrough untouched
-through-untouched B i [] w ok = refl
-through-untouched B i (c ∷ cs) w ok =
-    let rest = and-right (isDone (slotAt i (w .stack))) (doneThrough B i cs (step B c w)) ok in
-    let d = and-left (isDone (slotAt i (w .stack))) (doneThrough B i cs (step B c w)) ok in
-    let n = is-false (ends i c (w .stack)) (λ e. no-both (isDone (slotAt i (step B c w .stack))) (through-first B i cs (step B c w) rest) (ends-takes B i c w d e)) in
-    and-both (not (ends i c (w .stack))) (untouched B i cs (step B c w)) (ap not n) (through-untouched B i cs (step B c w) rest)
-
--- and while none has ended it, it is there
-pub untouched-through : (B i : ℕ) (calls : List Call) (w : World) → isDone (slotAt i (w .stack)) ≡ true → untouched B i calls w ≡ true → doneThrough B i calls w ≡ true
-unfolding doneThrough untouched
-untouched-through B i [] w d ok = d
-untouched-through B i (c ∷ cs) w d ok =
-    let n = not-true (ends i c (w .stack)) (and-left (not (ends i c (w .stack))) (untouched B i cs (step B c w)) ok) in
-    let e = passed B c (w .stack) i (slotAt i (step B c w .stack)) d n (fates B c w .each i) in
-    and-both (isDone (slotAt i (w .stack))) (doneThrough B i cs (step B c w)) d
-    (untouched-through B i cs (step B c w) (ap isDone e ∙ d) (and-right (not (ends i c (w .stack))) (untouched B i cs (step B c w)) ok))
-
--- whatever calls come: while slot i holds a message with no handle out, it is the same message
-pub while-done : (B i : ℕ) (calls : List Call) (w : World) → slotAt i (w .stack) .len ≤ B → doneThrough B i calls w ≡ true
-    → messageAt B i (steps B calls w) ≡ messageAt B i w
-while-done B i calls w l ok = returned-stays B i calls w (through-first B i calls w ok) l (through-untouched B i calls w ok) .1
-
 -- ---- a lookup
 
 abbrev isFound : Deferred → Bool
@@ -316,10 +286,6 @@ put-back B h w g =
       len = ap (λ (x : Reassembler). x .len) e;
     }
 
-pub return-keeps : (B : ℕ) (h : ReceiveHandle) (w : World) → isGood h (w .stack) ≡ true
-    → (isDone (slotAt (h .index) (step B (returnHandle h) w .stack)) ≡ true) × (messageAt B (h .index) (step B (returnHandle h) w) ≡ messageAt B (h .index) w)
-return-keeps B h w g = let q = put-back B h w g in (q .done, q .message)
-
 -- a message is put back under its good handle h; then come calls that do not end it; then a lookup takes it: the handle k that it tells fetches that same
 -- message
 pub comes-back : (B : ℕ) (h k : ReceiveHandle) (calls : List Call) (c : Call) (w : World)
@@ -345,31 +311,3 @@ handed-back B m p w d before after c k ok rests e at =
     let x = held-stays B (d .handle) m before (step B (receive p) w) (handed-held B m p w d) ok in
     subst (λ (n : Message). Fetches B k n (step B c (steps B after (step B (returnHandle (d .handle)) w₀)))) (x .message)
     (comes-back B (d .handle) k after c w₀ (x .good) (x .short) (x .long) rests e at)
-
--- ---- one call: nothing else can happen
-
-pub data Next (B i : ℕ) (w w′ : World) : Type 0 where
-  rests : isDone (slotAt i (w′ .stack)) ≡ true → messageAt B i w′ ≡ messageAt B i w → Next B i w w′
-  ended : isEmpty (slotAt i (w′ .stack)) ≡ true → Next B i w w′
-  taken : (h : ReceiveHandle) → h .index ≡ i → isGood h (w′ .stack) ≡ true → messageAt B i w′ ≡ messageAt B i w → Next B i w w′
-
--- after any call at all a message with no handle out is as it was; or it is gone and its slot empty; or its handle is out, and it is as it was
-pub done-next : (B i : ℕ) (c : Call) (w : World) → isDone (slotAt i (w .stack)) ≡ true → slotAt i (w .stack) .len ≤ B → Next B i w (step B c w)
-done-next B i c w d l = go (fates B c w .each i)
-  where
-    w′ : World
-    w′ = step B c w
-
-    body : bodyAt B i (slotAt i (w .stack) .len) (w′ .pool) ≡ bodyAt B i (slotAt i (w .stack) .len) (w .pool)
-    body = whole-stays B i (slotAt i (w .stack) .len) c w (done-whole (slotAt i (w .stack)) d) l
-
-    go : Fate B c (w .stack) i (slotAt i (w′ .stack)) → Next B i w w′
-    go (stays e) = rests (ap isDone e ∙ d) (message-by B i w w′ (record { slot = e; body = body }))
-    go (goes e o r) = ended (ap isEmpty e)
-    go (found e y r) =
-        let n = nextIssue (w .stack .head .issue) in
-        let h : ReceiveHandle = record { index = i; issue = n } in
-        taken h refl (good-is h (w′ .stack) ∙ (ap (handleIs n) e ∙ eq-eqb n n refl))
-        (ap (λ (x : Reassembler). readFrom (w′ .pool) (messageIn B i x)) e ∙ ap (λ (b : List ℕ). of (slotAt i (w .stack)) b) body)
-    go (named h j z m q x) = absurd (done-not-out (h .issue) (slotAt i (w .stack)) d z)
-    go (filled y o q x) = absurd (no-both (isDone (slotAt i (w .stack))) d y)

@@ -22,12 +22,8 @@ use Rattle.slot.specs.Slot.{blankSlot, isDone, handleTaken}
 use Rattle.reassemble.specs.Enter.{appended}
 use Rattle.fragment.specs.Cutting.{bodyIn}
 use Rattle.state.specs.Stack.{Stack, slotAt}
-use Rattle.receiving.specs.Receive.{Receipt, receiveOf}
-use Rattle.promises.specs.Calls.{Call, receive, World, step, steps, receipt, performed}
-use Rattle.mctp.specs.Answer.{Answer, gives, answerNo}
-use Rattle.slot.specs.declared.ReceiveHandle.{ReceiveHandle}
-use Rattle.slot.specs.Handle.{handleWords}
-use Rattle.receiving.specs.Conclude.{receivedAs}
+use Rattle.receiving.specs.Receive.{receiveOf}
+use Rattle.promises.specs.Calls.{Call, receive, World, step, steps, receipt}
 use Rattle.promises.specs.History.{takes}
 use Rattle.promises.proofs.Slots.{parts}
 use Rattle.promises.proofs.Pool.{slot-le, bodyAt, pool-length, body-apart}
@@ -171,13 +167,3 @@ pub pool-tail : (B : ℕ) (calls : List Call) (w : World) → tailOf B (steps B 
 unfolding steps
 pool-tail B [] w = refl
 pool-tail B (c ∷ cs) w = pool-tail B cs (step B c w) ∙ ap (λ (n : ℕ). drop (B * n) (step B c w .pool)) (fates B c w .count) ∙ leaves B c w .tail
-
--- a receive that hands out was lent a pool that is long enough, and the pool was as long before the calls
-pub told-room : (B : ℕ) (calls : List Call) (w : World) (p : List ℕ) (h : ReceiveHandle) → performed B (receive p) (steps B calls w) ≡ gives (handleWords h)
-    → B * length (w .stack .slots) ≤ length (w .pool)
-unfolding receiveOf pick
-told-room B calls w p h e =
-    let v = steps B calls w in
-    bool-cases (ltb (length (v .pool)) (B * length (v .stack .slots)))
-    (λ t. let z : _≡_ {A = ℕ} 6 0 = ap answerNo (rw t at e) in absurd (omega arith))
-    (λ f. rw (slots-count B calls w, pool-long B calls w) at (ltb-false (length (v .pool)) (B * length (v .stack .slots)) f))

@@ -143,11 +143,6 @@ seeks s (freeTags peer) = false
 abbrev pub passes : Reassembler → Call → Bool
 passes s c = not (seeks s c)
 
--- whether slot i holds a message with no handle out at every moment of a run of calls from w, the first and the last included
-unfoldable pub doneThrough : ℕ → ℕ → List Call → World → Bool
-doneThrough B i [] w = isDone (slotAt i (w .stack))
-doneThrough B i (c ∷ cs) w = isDone (slotAt i (w .stack)) && doneThrough B i cs (step B c w)
-
 -- ---- a message, and what every call keeps of a stack
 
 -- a fetch under the handle h, lent the watched pool, gives m
