@@ -1,4 +1,4 @@
-# Sourced by tools/archive and oracle/changed: keeps the LLVM module that the toolchain's clang is given, and makes of it text for any machine.
+# Sourced by tools/archive and oracle/changed: keeps the LLVM module that the toolchain's clang is given, and turns it into text for any machine.
 machine=$(uname -m)
 home=${RATTLE_HOME:-$(dirname "$(dirname "$(readlink -f "$(rt doc)")")")}
 kit=$home/on/$machine

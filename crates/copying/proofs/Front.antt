@@ -16,7 +16,7 @@ use Rattle.octets.proofs.Number.{bytes-slice, le-field}
 unfoldable pub front : ℕ → List ℕ → List ℕ → List ℕ
 front n s d = take n s ++ drop n d
 
--- from s to d
+-- a copy from s to d
 module _ (s d : List ℕ) where
   -- w bytes read as a number, and stored at the same place
   pub moved : (i w : ℕ) {x : ℕ} {e : List ℕ} → x ≡ num (part i w s) → e ≡ over i (le w x) d → i + w ≤ length s → ((k : ℕ) → Fits w8 (getD s k 0)) → e ≡ over i (part i w s) d

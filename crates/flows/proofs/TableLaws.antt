@@ -226,7 +226,7 @@ module _ (peer : Eid) (tag : TagValue) (expires : Bool) (cookie : Cookie) (t : T
   taken-free : ltb at (length (t .flows)) ≡ true → (p : Eid) (u : TagValue) → isFlow p u (getD (t .flows) at noFlow) ≡ false
   taken-free y p u = free-not p u _ (not-true _ (find-hit isFree (t .flows) noFlow (ltb-true _ _ y)))
 
-  -- by cases: the new flow at the first free place, or the table is full
+  -- proof by cases: the new flow takes the first free place, or the table is full
   by-place : (P : List Flow → Type 0) → (ltb at (length (t .flows)) ≡ true → P (set (t .flows) at new))
       → (ltb at (length (t .flows)) ≡ false → P (t .flows)) → P after
   unfolding insertFlow
@@ -291,7 +291,7 @@ module _ (peer : Eid) (expires : Bool) (cookie : Cookie) (t : Table) where
       bool-cases (standing peer tag (t .flows)) (λ y. subst (λ (u : Table). P (u .flows)) (sym (fixed-stands tag y)) same)
       (λ n. subst (λ (r : Flowed). P (r .table .flows)) (sym (pick-false _ _ _ n)) (ins n))
 
-  -- by cases: the flows stay, or a tag that does not stand is inserted
+  -- proof by cases: the flows stay, or a tag that does not stand is inserted
   pub by-insert : (P : List Flow → Type 0) (wish : Wish) → P (t .flows)
       → ((tag : TagValue) (n : ℕ) → tag .0 < 8 → standing peer tag (t .flows) ≡ false → P (inserted tag n))
       → P (setFlow peer wish expires cookie t .table .flows)

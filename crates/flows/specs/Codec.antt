@@ -1,5 +1,5 @@
 -- A flow in 32 bytes: used, peer and tag come first, so that one number of 4 bytes tells which peer and tag a place belongs to.
--- `FlowOk` says the ranges that a flow's fields always have.
+-- `FlowOk` gives the ranges that a flow's fields always have.
 -- Leans on `octets` for rows of numbers.
 use Prim.Native.Nat.{ℕ, _+_, _*_, _^_, _<_}
 use mathlib.Core.List.{List, [], _∷_}

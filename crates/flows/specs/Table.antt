@@ -45,7 +45,7 @@ isFlow peer tag f = pick (f .used) (pick (sameEid (f .peer) peer) (sameTag (f .t
 abbrev pub flowPlace : Eid → TagValue → List Flow → ℕ
 flowPlace peer tag flows = find (isFlow peer tag) flows
 
--- at most one place for each peer and tag
+-- each peer and tag has at most one place
 unfoldable pub Unique : List Flow → Type 0
 Unique flows =
     (peer : Eid) (tag : TagValue) (i j : ℕ) → isFlow peer tag (getD flows i noFlow) ≡ true → isFlow peer tag (getD flows j noFlow) ≡ true → i ≡ j

@@ -1,5 +1,5 @@
 // Tags as bits of a byte: bit t of a peer's used-tag byte says that tag t is taken. The search for a free tag is here and nowhere else.
-// A tag is taken modulo 8. Definitions: specs/Tags.antt.
+// Tag numbers are counted modulo 8. Definitions: specs/Tags.antt.
 ghost use mathlib.Core.Path.{_≡_};
 ghost use Prim.Native.Nat.{_%_, _^_, _≤_};
 ghost use Rattle.flows.specs.Tags.{freeTagOf, freeCount, isFreeIn, setBit};

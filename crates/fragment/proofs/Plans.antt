@@ -105,7 +105,7 @@ module _ (f : Fragmenter) (payload : List ℕ) where
       let g = carried f payload in
       ap g is ∙ either g _ (still-carried _) (either g _ (refused-carried NoSpace) (either g _ (refused-carried InvalidInput) (emit-carried n)))
 
-  -- and what the plan tells of fragmenter and answer is the step's result
+  -- and the fragmenter and the answer that the plan tells are the step's result
   pub step-told : (n : ℕ) {p : Plan} {next : Fragmenter} {output : SendOutput} → p ≡ planOf f (length payload) n → next ≡ nextBy f p → output ≡ outputBy p
       → record { next = next; output = output } ≡ stepOf f payload n .result
   step-told n is a b = rw (a, b) (ap (λ (s : Step). s .result) (step-planned n is))

@@ -115,8 +115,7 @@ stepOf f payload n =
     (pick (ltb n (lead (f .first))) (refused f NoSpace)
     (pick (ltb (length payload) (f .«payload_used»)) (refused f InvalidInput) (emitted f payload n)))
 
--- The same step in two parts: a plan, from the sizes of payload and buffer alone, and then the bytes that it writes. `stepOf` is the two together
--- (`step-planned`).
+-- The same step in two parts: a plan, from the sizes of payload and buffer alone, and then the bytes that it writes. `stepOf` is the two together (`step-planned`).
 abbrev pub emitOf : Fragmenter → ℕ → ℕ → Cut
 emitOf f size n = record {
   next = nextOf f size n;

@@ -120,11 +120,11 @@ takeOf i st =
 abbrev pub deferredOf : (Reassembler → Bool) → Stack → Lookup
 deferredOf f st = takeOf (earliest f (st .slots)) st
 
--- by source, TO and tag; a tag above 7 finds none
+-- the lookup by source, TO and tag; a tag above 7 finds none
 unfoldable pub bySourceOf : Eid → Tag → Stack → Lookup
 bySourceOf source tag st =
     pick (ltb 7 (tagOf tag .0)) (record { stack = st; said = Nothing }) (deferredOf (keptUnder source (isOwner tag) (tagOf tag)) st)
 
--- by any of a list of cookies
+-- the lookup by any of a list of cookies
 abbrev pub byCookieOf : List ℕ → Stack → Lookup
 byCookieOf cookies st = deferredOf (λ s. listed cookies (s .cookie)) st

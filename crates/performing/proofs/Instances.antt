@@ -41,7 +41,7 @@ nine = freshStack board (record { 0 = 9 }) 6 0
 abbrev eight : Stack
 eight = freshStack board (record { 0 = 8 }) 64 0
 
--- to EID 8, type 1, under a fresh tag that does not expire, no integrity check, the own MTU, no cookie
+-- a send to EID 8 of type 1, under a fresh tag that does not expire, with no integrity check, the own MTU and no cookie
 abbrev query : List ℕ
 query = 8 ∷ 1 ∷ 0 ∷ 0 ∷ 0 ∷ 0 ∷ 0 ∷ 0 ∷ 0 ∷ 0 ∷ []
 

@@ -74,8 +74,7 @@ Feeds (f ∷ fs) b p =
     × (Trace (f .gap) (f .deed .after) (f .deed .left .pool)
     × Feeds fs (lastBytes (f .gap) (f .deed .after)) (lastPool (f .gap) (f .deed .left .pool)))))
 
--- a fetch that was performed is answered 0 and leaves in its row the facts of m; its body lies within the pool, at the place and with the length that the row
--- says
+-- a fetch that was performed is answered 0 and leaves the facts of m in its row; its body lies within the pool, at the place and of the length in the row
 pub record Gives (m : Message) (pool : List ℕ) (d : Deed) : Type 0 where
   pub facts : Facts
   pub said : d .said ≡ 0

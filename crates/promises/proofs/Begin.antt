@@ -35,7 +35,7 @@ module _ (B : ℕ) (K : Key) (typ : MsgType) (ic : MsgIC) (mtu number : ℕ) (eo
   long : ltb (length p) 5 ≡ false
   long = le-ltb (length p) 5 (is .whole)
 
-  -- in a slot that collects its key already
+  -- the first fragment comes to a slot that collects its key already
   pub again-poised : collecting K (w .stack) ≡ true
       → Poised B K typ ic (slotAt (find (collects K) (w .stack .slots)) (w .stack) .cookie) (w .stack .head .now .clock) (find (collects K) (w .stack .slots)) []
       (headed K true eom number) p w
@@ -74,7 +74,7 @@ module _ (B : ℕ) (K : Key) (typ : MsgType) (ic : MsgIC) (mtu number : ℕ) (eo
       col : collects K s ≡ true
       col = find-hit (collects K) (w .stack .slots) blankSlot inn
 
-  -- in a free slot, through the gate with the cookie c
+  -- the first fragment comes to a free slot, and passes the gate with the cookie c
   pub fresh-poised : collecting K (w .stack) ≡ false → vacancy (w .stack) ≡ true → (c : Cookie)
       → gateEmpty (w .stack .head .«own_eid») (headed K true eom number) (standing (K .source) (K .tag) (w .stack .flows)) (flowCookie (K .source) (K .tag) (w .stack .flows))
       ≡ Pass (opened (headed K true eom number) c)

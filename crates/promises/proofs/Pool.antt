@@ -10,7 +10,7 @@ use lib.ListN.{length}
 use Rattle.octets.specs.Bytes.{part, over}
 use Rattle.octets.proofs.Part.{part-add, part-below, part-above, part-same, length-over}
 
--- of two slots the lower ends where the upper begins, or before
+-- of two slots the lower one's part ends where the upper one's begins, or before
 pub slot-le : (B i j : ℕ) → i < j → B * i + B ≤ B * j
 slot-le B i j h = omega (arith, mul-le-mul-left {m = suc i} {n = j} B h)
 

@@ -1,6 +1,5 @@
 -- docs/RULES.md 13 to 16 as laws: each call gives the refusals that `refusalsOf` lists and no others, each alone, and exactly when it is due (`saysNo`). Each
--- of them is met; none changes a byte of a buffer; and most leave all as it was. `refused-receive`, `refused-send` and `refused-cancel` say what the others
--- leave.
+-- of them is met; none changes a byte of a buffer; and most leave all as it was. `refused-receive`, `refused-send` and `refused-cancel` say what the others leave.
 use Prim.Native.Nat.{ℕ}
 use mathlib.Core.Path.{_≡_, refl, ap, _∙_}
 use mathlib.Core.Bool.{true}

@@ -1,5 +1,4 @@
--- A refused cancel: its number, and what it leaves of the stack. What the walk makes of the slots is told slot by slot, by the first place at which it would
--- stop.
+-- A refused cancel: its number, and what it leaves of the stack. What the walk makes of the slots is told slot by slot, by the first place at which it would stop.
 use Prim.Native.Nat.{ℕ, zero, suc}
 use native.Mathlib.Omega.{arith}
 use mathlib.Core.Path.{_≡_, refl, sym, ap, _∙_}

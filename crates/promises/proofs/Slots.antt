@@ -34,7 +34,7 @@ module _ (K : Key) (s : Reassembler) (c : collects K s ≡ true) where
   pub collects-state : s .state ≡ Collecting
   collects-state = state-of (s .state) (sameKey (s .key) K) c
 
-  -- and in no other state
+  -- and it is in no other state
   pub not-in : (f : State → Bool) → f Collecting ≡ false → f (s .state) ≡ false
   not-in f n = ap f collects-state ∙ n
 

@@ -1,5 +1,5 @@
--- Every public call on a stack with all its arguments: what it makes of the stack and of the pool that we watch, and what it answers. B is the most bytes that
--- a body holds.
+-- Every public call on a stack with all its arguments: what it makes of the stack and of the pool that we watch, and what it answers.
+-- B is the most bytes that a body holds.
 -- A receive comes in two kinds: it is lent the watched pool, or any other buffer. No other call writes a pool.
 -- Leans on the definitions that the contracts of `estack` cite, and on nothing else.
 use Prim.Native.Nat.{ℕ, _+_, _≤_}

@@ -104,8 +104,7 @@ asked (Good h) st = pick (opening (st .head .«own_eid») h) (pick (h .key .owne
 abbrev pub overlong : ℕ → ℕ → ℕ → ℕ
 overlong B l n = pick (ltb B (l + n)) 2 0
 
--- rules 45, 47 and 48, why a packet that has its slot is dropped: 1 for SOM with 4 bytes only or for a wrong sequence, 2 for a body above B, and 0 where it is
--- taken
+-- rules 45, 47 and 48, why a packet that has its slot is dropped: 1 for SOM with 4 bytes only or for a wrong sequence, 2 for a body above B, and 0 where it is taken
 abbrev pub dropped : ℕ → HeaderRead → List ℕ → Reassembler → ℕ
 dropped B Bad p s = 0
 dropped B (Good h) p s =

@@ -75,8 +75,7 @@ pub fn cookie_from(has: bool, value: u64) -> Cookie
 
 // ---- a send
 
-// Whether the row is a good send: destination, type and a given tag are bytes, and the kind of tag is one of the three. For a fresh tag word 3 is not looked
-// at.
+// Whether the row is a good send: destination, type and a given tag are bytes, and the kind of tag is one of the three. For a fresh tag word 3 is not looked at.
 pub fn is_good_send(w: &[u64; 10]) -> bool
     ensures { λ r. ⌜ r ≡ goodSend (now (w .entry)) ⌝ }
 {

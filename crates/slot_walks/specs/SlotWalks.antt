@@ -35,8 +35,7 @@ chosen Listed cookies s = listed cookies (s .cookie)
 abbrev pub hasWord : ℕ → Reassembler → Bool
 hasWord w s = eqb (keyWord s) w
 
--- the better of slot i, which passes the test, and the best of the slots after it, if there is one: the one with the earlier stamp, and slot i when the stamps
--- are equal
+-- the better of slot i, which passes the test, and the best of the slots after it, if there is one: the one with the earlier stamp, and slot i when the stamps are equal
 unfoldable pub betterOf : ℕ → ℕ → List Reassembler → ℕ
 betterOf i best slots =
     pick (ltb best (length slots)) (pick (earlier ((getD slots best blankSlot) .stamp) ((getD slots i blankSlot) .stamp)) best i) i

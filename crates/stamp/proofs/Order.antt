@@ -75,7 +75,7 @@ pub stays : (s : EventStamp) → lastCount ≤ s .counter → next s ≡ s
 unfolding next
 stays s h = pick-false (ltb (s .counter) lastCount) (record { clock = s .clock; counter = s .counter + 1 }) s (le-ltb (s .counter) lastCount h)
 
--- by clock, or by counter at one clock
+-- the order by clock, and by counter where the clocks are equal
 abbrev Ordered : EventStamp → EventStamp → Type 0
 Ordered a b = (a .clock < b .clock) ⊎ ((a .clock ≡ b .clock) × (a .counter < b .counter))
 
@@ -93,7 +93,7 @@ never a (inr h) = omega arith
 pub earlier-irreflexive : (a : EventStamp) → earlier a a ≡ false
 earlier-irreflexive a = fails (earlier a a) (λ e. never a (earlier-is a a e .order))
 
--- of two stamps one at most is before the other
+-- of two stamps at most one is before the other
 pub earlier-asymmetric : (a b : EventStamp) → earlier a b ≡ true → earlier b a ≡ false
 earlier-asymmetric a b e = fails (earlier b a) (λ f. never a (chain a b a (earlier-is a b e .order) (earlier-is b a f .order)))
 

@@ -82,7 +82,7 @@ module _ {A : Type 0} (C : Codec A) (n at : ℕ) (b : List ℕ) (d : A) (r : Reg
   block-lent : i < n → lentAs (at + C .width * i) (C .width) b ≡ C .enc element
   block-lent h = lent (at + C .width * i) (C .width) b ∙ rw (block-get h, ← place-is (C .width) at i) (regular-get C n at i b h r .same)
 
-  -- and a number in it is one in its bytes
+  -- and a number read from the block is the one that the bytes hold there
   block-field : (j w : ℕ) → i < n → field j w (lentAs (at + C .width * i) (C .width) b) ≡ field j w (C .enc element)
   block-field j w h = ap (λ (l : List ℕ). field j w l) (block-lent h)
 

@@ -1,5 +1,5 @@
 -- A slot in 40 bytes: its state, then its key in wire order, so that one number of 4 bytes tells what it collects.
--- `SlotOk` says the ranges that a slot's fields always have.
+-- `SlotOk` gives the ranges that a slot's fields always have.
 -- Leans on `octets` for numbers in bytes, on `mctp` for keys and types, on `slot` for the record.
 use Prim.Native.Nat.{ℕ, _+_, _*_, _/_, _%_, _^_, _<_, _≤_}
 use mathlib.Core.List.{List, [], _∷_, _++_}

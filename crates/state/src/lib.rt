@@ -142,7 +142,7 @@ pub fn write_head(b: &mut [u8], h: Head)
 
 // ---- a slot in 40 bytes
 
-// What a middle packet of a message looks at.
+// The part of a slot that a middle packet of a message looks at.
 pub struct Progress {
     pub seq: u8,
     pub len: usize,

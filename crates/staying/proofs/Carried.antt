@@ -335,8 +335,7 @@ module _ (B : ℕ) (w₀ : World) (empty : allOf isEmpty (w₀ .stack .slots) �
       h (as-told (receipt B p w .said) h said) K k
 
 -- from a stack with no slot taken and a pool that is long enough, after any calls at all: whenever a packet hands out a message m, the packets taken under its
--- key since the newest opening one carry a message of that key, type and IC, whatever MTU they fit: SOM on the first alone, EOM on the last alone, numbered in
--- turn
+-- key since the newest opening one carry a message of that key, type and IC, whatever MTU they fit: SOM on the first alone, EOM on the last alone, numbered in turn
 pub told-carries : (B : ℕ) (w₀ : World) → allOf isEmpty (w₀ .stack .slots) ≡ true → B * length (w₀ .stack .slots) ≤ length (w₀ .pool)
     → (cs : List Call) (p : List ℕ) (h : ReceiveHandle) → performed B (receive p) (steps B cs w₀) ≡ gives (handleWords h)
     → let m = messageAt B (h .index) (step B (receive p) (steps B cs w₀)) in

@@ -55,7 +55,7 @@ other = 0x01 ∷ 0x08 ∷ 0x0A ∷ 0xC9 ∷ 0x01 ∷ 0x77 ∷ []
 abbrev first : ReceiveHandle
 first = record { index = 0; issue = 1 }
 
--- with its message handed out
+-- the world in which its message is handed out
 abbrev held : World
 held = steps 1032 (receive one ∷ []) start
 

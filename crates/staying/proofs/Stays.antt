@@ -246,8 +246,7 @@ pub handed-held : (B : ℕ) (m : Message) (p : List ℕ) (w : World) (d : Hands 
 handed-held B m p w d =
     fetches-held B (d .handle) m (step B (receive p) w) (record { facts = d .facts; fetched = d .fetched; message = d .message }) (told-short B p w (d .handle) (d .told))
 
--- a message that a receive has handed out is fetched, whatever calls come, until a finish, a return or a set cookie names its handle. Nothing is asked of the
--- world
+-- a message that a receive has handed out is fetched, whatever calls come, until a finish, a return or a set cookie names its handle. Nothing is asked of the world
 pub handed-stays : (B : ℕ) (m : Message) (p : List ℕ) (calls : List Call) (w : World) (d : Hands B m p w)
     → allOf (spares (d .handle)) calls ≡ true → Fetches B (d .handle) m (steps B calls (step B (receive p) w))
 handed-stays B m p calls w d ok =

@@ -1,5 +1,4 @@
--- The head is read, and the ranges that its bytes do not give are tested; written out again it equals the block exactly where the block holds a head
--- (`reheld`).
+-- The head is read, and the ranges that its bytes do not give are tested; written out again it equals the block exactly where the block holds a head (`reheld`).
 use mathlib.Core.Path.{refl}
 use denote.Ref.{now}
 use Rattle.state.specs.Head.{headCodec}

@@ -1,5 +1,4 @@
--- Each test refuses a head that is out of its range; past the last test all ranges hold. The code subtracts to see how far ahead the planned check is, since a
--- sum could wrap.
+-- Each test refuses a head that is out of its range; past the last test all ranges hold. The code subtracts to see how far ahead the planned check is, since a sum could wrap.
 use native.Mathlib.Omega.{arith}
 use Rattle.kept.proofs.TellLaws.{says-no, says-yes}
 use borrow.Author.Needs.{needs}

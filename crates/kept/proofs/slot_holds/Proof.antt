@@ -1,5 +1,4 @@
--- The slot is read, and the ranges that its bytes do not give are tested; written out again it equals the block exactly where the block holds a slot
--- (`reheld`).
+-- The slot is read, and the ranges that its bytes do not give are tested; written out again it equals the block exactly where the block holds a slot (`reheld`).
 use mathlib.Core.Path.{refl}
 use denote.Ref.{now}
 use Rattle.state.specs.Layout.{slotWidth}
