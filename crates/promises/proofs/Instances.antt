@@ -176,7 +176,7 @@ reply-met =
 
 -- ---- a restart in a slot that collects
 
--- a first fragment of the reply comes at 5,000 ms; at 6,001 ms the flow has expired, and the slot collects still
+-- a first fragment of the reply comes at 5,000 ms; at 6,001 ms the flow has expired, and the slot still collects
 abbrev stranded : World
 stranded = steps 1032 (startSend query ∷ update 5000 ∷ receive (0x01 ∷ 0x08 ∷ 0x09 ∷ 0xA1 ∷ 0x01 ∷ 0x77 ∷ []) ∷ update 6001 ∷ []) start
 

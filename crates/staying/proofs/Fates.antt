@@ -1,6 +1,6 @@
 -- What a call does to a slot: nothing; it empties one whose handle is not out; a lookup takes one that is done; a finish, a return or a set cookie changes
 -- the one whose handle it names; a packet fills one that collects or is empty. A slot that is done goes only by a call that ends it (`ends`). No call grows
--- a body past B or stamps a slot later than the clock, and the slots stay as many as they are.
+-- a body past B or stamps a slot later than the clock, and the number of slots stays.
 use Prim.Native.Nat.{ℕ, zero, suc, _≤_}
 use native.Mathlib.Nat.{le-refl}
 use native.Mathlib.Omega.{arith}

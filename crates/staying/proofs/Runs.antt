@@ -61,7 +61,7 @@ held = steps 1032 (receive one ∷ []) start
 
 -- ---- a message whose handle is out
 
--- a hundred seconds pass, another message comes, lookups and a cancel ask for it, and calls come under other handles
+-- a hundred seconds pass and another message comes; then lookups, a cancel, and calls under other handles
 abbrev much : List Call
 much =
     update 100000 ∷ receive other ∷ elsewhere 5000 one ∷ getDeferred (record { 0 = 9 }) (Owned (record { 0 = 1 })) ∷ getDeferredByCookie (7 ∷ []) ∷ cancelFlow (record { 0 = 9 }) (record { 0 = 1 })
