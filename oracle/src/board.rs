@@ -251,7 +251,7 @@ impl Board {
         answer
     }
 
-    /// The guards stand, the bytes between them are a state, and those that hold nothing are 0.
+    /// Checks that the guards stand, that the bytes between them are a state, and that those that hold nothing are 0.
     fn look(&self) {
         self.look_around();
         assert!(raw::is_kept(self.state()), "the bytes are no state");

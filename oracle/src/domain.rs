@@ -46,7 +46,7 @@ fn wish_in_range(wish: TagWish) -> bool {
     }
 }
 
-/// The earliest of the done slots wanted has no handle out: the original would give it a second one.
+/// Whether the earliest of the done slots wanted has no handle out; to one that has, the original would give a second one.
 fn one_handle(state: &Snapshot, wanted: impl Fn(&SlotView) -> bool) -> bool {
     let done = |s: &&SlotView| matches!(s.phase, Phase::Done { .. });
     let earliest = state.slots.iter().flatten().filter(done).filter(|s| wanted(s)).min_by_key(|s| s.stamp);

@@ -4,7 +4,7 @@ use crate::call::{Call, Lent, KEPT};
 use crate::port::*;
 use crate::rng::Rng;
 
-/// What an episode leans to.
+/// What an episode favours.
 struct Style {
     /// By kind of call, in the order of `Generator::next`.
     weights: [usize; 13],
@@ -14,7 +14,7 @@ struct Style {
     long_bodies: bool,
     /// One flow in so many expires.
     expires: usize,
-    /// Replies come in beside each other, and their flows go and come back under them.
+    /// Replies come in beside each other, and their flows go and come back in the meantime.
     replies: bool,
 }
 

@@ -155,7 +155,7 @@ impl Slot {
         }
     }
 
-    /// Steps 3 to 6 of receive: whether the message is complete. On a refusal the caller frees the slot.
+    /// Rules 45 to 50 of receive; tells whether the message is complete. On a refusal the caller frees the slot.
     fn take(&mut self, header: &Header, packet: &[u8], at: usize, event: Stamp, pool: &mut [u8]) -> Answer<bool> {
         if header.som {
             let kind = *packet.get(4).ok_or(Refusal::InvalidInput)?;
@@ -223,7 +223,7 @@ impl Model {
         Ok(())
     }
 
-    /// The tag that the send carries, its flow standing if it is an owned one.
+    /// The tag that the send carries; an owned one has its flow standing then.
     fn settle_tag(&mut self, send: &Send) -> Answer<Tag> {
         let value = match send.tag {
             TagWish::Unowned(value) => return Ok(Tag { owner: false, value }),
@@ -242,7 +242,7 @@ impl Model {
         dest == self.own || dest == NULL
     }
 
-    /// Step 1 of receive.
+    /// Rule 39 of receive.
     fn find_slot(&self, header: Option<&Header>) -> Answer<usize> {
         let collecting = |s: &Option<Slot>| {
             let key = header.map(|h| h.key);
@@ -255,7 +255,7 @@ impl Model {
             .ok_or(Refusal::NoSpace)
     }
 
-    /// Step 2 of receive, for an empty slot.
+    /// Rules 40 to 42 of receive, for an empty slot.
     fn open(&mut self, header: Option<&Header>) -> Answer<Slot> {
         let stamp = self.now.event();
         let h = header.ok_or(Refusal::InvalidInput)?;
@@ -295,7 +295,7 @@ impl Model {
         Some(self.issue(index))
     }
 
-    /// Frees what has expired: the least remaining time, and whether anything went.
+    /// Frees what has expired, and gives the least remaining time and whether anything went.
     fn expire(&mut self) -> (u64, bool) {
         let now = self.now.clock;
         let mut least = INTERVAL;

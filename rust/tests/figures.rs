@@ -1,4 +1,4 @@
-//! The figures from the bay, through the wrapper. Fresh stack, own EID 8, MTU 255, clock 0.
+//! The figures of docs/RULES.md, section 11, through the wrapper. Each starts on a fresh stack: own EID 8, MTU 255, clock 0.
 
 mod common;
 

@@ -230,7 +230,7 @@ fn rows() -> Vec<(&'static str, Vec<String>)> {
     rows
 }
 
-/// So many numbers has a row by every exported call that takes one.
+/// How many numbers a row has by every exported call that takes one.
 fn row_length(name: &str) -> String {
     let calls = exported(&calls());
     let mut lengths = calls.iter().flat_map(|call| &call.arguments).filter(|(argument, _)| argument == name).map(|(_, ty)| {

@@ -98,7 +98,7 @@ fn story(mut stack: Stack, pool: &mut Pool, out: &ReceiveHandle) -> Vec<(String,
     told
 }
 
-/// Both decisions on these bytes; they must be one.
+/// Both decisions on these bytes; they must agree.
 fn decide(bytes: &Bytes, what: std::fmt::Arguments<'_>) -> bool {
     let stack = Stack::from_bytes(*bytes);
     assert_eq!(stack.is_ok(), is_stack(bytes), "{what}");
@@ -285,7 +285,7 @@ fn random_states() {
     assert!(kept > 5_000 && refused > 5_000, "{kept} kept, {refused} refused");
 }
 
-/// Bytes of no thought at all are refused.
+/// Random bytes are refused.
 #[test]
 fn noise() {
     let mut random = Random(1);

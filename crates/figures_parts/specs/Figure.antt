@@ -1,5 +1,5 @@
 -- A figure's fresh stack: own EID 8, clock 0, with no slot taken and no flow; and the message that a figure sends: type 1 under a fresh tag.
--- What a figure writes is held to the program's `stdout`; what it does to the stack's bytes stands in the contracts.
+-- What a figure writes is compared with the program's file `stdout`; what it does to the stack's bytes stands in the contracts.
 -- Leans on `estack` for a new stack, on `sending` for a send, on `board` for the sizes.
 use Prim.Native.Nat.{ℕ}
 use mathlib.Core.Bool.{true, false}

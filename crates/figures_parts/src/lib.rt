@@ -36,19 +36,19 @@ fn say(text: &[u8]) {
     io::write_all(1, text);
 }
 
-// A space, and the number.
+// Writes a space and the number.
 fn number(n: u64) {
     say(b" ");
     io::print_decimal(1, n);
 }
 
-// A space, and the byte's two digits.
+// Writes a space and the byte's two digits.
 fn byte(x: u8) {
     say(b" ");
     io::print_hex(1, x as u64, 2);
 }
 
-// The first n bytes, as far as there are some.
+// Writes the first n bytes, or as many as there are.
 fn bytes(b: &[u8], n: usize) {
     let mut i = 0;
     while i < n {
@@ -71,7 +71,7 @@ fn name(err: Error) {
     }
 }
 
-// A refusal: its number and its name.
+// Writes a refusal's number and its name.
 fn refusal(err: Error) {
     say(b" refused");
     number(err.number() as u64);
@@ -119,7 +119,7 @@ fn cut(mut f: Fragmenter, payload: &[u8], out: &mut [u8]) -> Fragmented
     }
 }
 
-// A packet's bytes, or why there is none.
+// Shows a packet's bytes, or why there is none.
 fn packet(output: SendOutput, out: &[u8]) {
     match output {
         SendOutput::Packet(n) => bytes(out, n),
@@ -128,7 +128,7 @@ fn packet(output: SendOutput, out: &[u8]) {
     }
 }
 
-// The packets of a message that takes at most two.
+// Shows the packets of a message that takes at most two.
 fn cut_in_two(f: Fragmenter, payload: &[u8]) {
     let mut out = [0u8; 255];
     let first = cut(f, payload, &mut out);
@@ -157,7 +157,7 @@ pub fn packets(state: &mut [u8], text: &[u8], peer: u8, mtu: SendMtu, payload: &
     }
 }
 
-// That a packet is taken, or why there is none.
+// Shows that a packet is taken, or why there is none.
 fn taken(output: SendOutput) {
     match output {
         SendOutput::Packet(_) => say(b" taken"),
@@ -166,7 +166,7 @@ fn taken(output: SendOutput) {
     }
 }
 
-// A first step with a buffer of that room, at most 255.
+// Takes the first step with a buffer of that room, at most 255.
 fn cut_first(f: Fragmenter, payload: &[u8], room: usize) {
     let mut out = [0u8; 255];
     if 255 < room {
@@ -221,7 +221,7 @@ pub fn fresh_tag(state: &mut [u8], text: &[u8], peer: u8)
     show_tag(state, peer);
 }
 
-// So many of them.
+// Starts so many sends to that peer, and shows their tags.
 pub fn fresh_tags(state: &mut [u8], text: &[u8], peer: u8, count: u8)
     requires { ⌜ Kept board (now state) ⌝ }
     ensures { λ _. ⌜ Kept board (now (state .exit)) ⌝ }
@@ -244,7 +244,7 @@ pub enum Show {
     Whole,
 }
 
-// The body is what the message lends of the pool.
+// Shows a whole message; its body is what the message lends of the pool.
 fn whole(pool: &[u8], m: Message) {
     say(b" message from");
     number(m.key.source.0 as u64);
@@ -282,7 +282,7 @@ fn fetch(state: &[u8], pool: &[u8], handle: ReceiveHandle, show: Show)
     }
 }
 
-// A message that is handed out is fetched, and finished.
+// Fetches and finishes a message that is handed out.
 fn settle(state: &mut [u8], pool: &[u8], handle: ReceiveHandle, show: Show)
     requires { ⌜ Kept board (now state) ⌝ }
     ensures { λ _. ⌜ Kept board (now (state .exit)) ⌝ }
@@ -316,7 +316,7 @@ fn planned(millis: u64, expired: bool) {
     say(b" false");
 }
 
-// Takes the clock, and shows what may pass until the next update, and whether something expired.
+// Takes the clock, and shows how many milliseconds may pass until the next update, and whether something expired.
 pub fn update(state: &mut [u8], text: &[u8], clock: u64)
     requires { ⌜ Kept board (now state) ⌝ }
     ensures { λ _. ⌜ Becomes board (now (state .entry)) (now (state .exit)) (updateOf clock (stackOf board (now (state .entry))) .stack) ⌝ }

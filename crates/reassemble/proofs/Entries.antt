@@ -1,5 +1,5 @@
 -- What a packet makes of a slot: laws for callers, which open no definition.
--- Each goes by the ends of a packet's way.
+-- Each goes through the ways in which a packet's entry can end.
 use Prim.Native.Nat.{ℕ, _+_, _-_, _≤_, _<_}
 use native.Mathlib.Omega.{arith}
 use mathlib.Core.Path.{_≡_, refl, sym, subst, _∙_}
@@ -59,7 +59,7 @@ module _ (B : ℕ) (now : EventStamp) (issue : ℕ) (s : Reassembler) (h : Heade
     unfolding append
     append-is q f = pick-true _ _ _ (eq-eqb (h .seq) (s .«next_seq») q) ∙ pick-false _ _ _ f
 
-  -- the plan's bytes are the packet's, and fit the body
+  -- the plan's bytes lie in the packet, and fit the body
   pub enter-plan : 4 ≤ length p → (t : Taken) → enter B now issue s h p ≡ Takes t → Planned t (length p) B
   unfolding enter append
   enter-plan k =
@@ -67,7 +67,7 @@ module _ (B : ℕ) (now : EventStamp) (issue : ℕ) (s : Reassembler) (h : Heade
       (λ _ f _ g. record { within = ltb-false _ _ f; fits = ltb-false _ _ g })
       (λ _ _ g. record { within = k; fits = ltb-false _ _ g })
 
-  -- the same of an entry that is told by `enter`
+  -- the same for an entry that `enter` gives
   pub told-plan : (e : Entry) → e ≡ enter B now issue s h p
       → (e ≡ enter B now issue s h p) × (4 ≤ length p → s .len ≤ B → (t : Taken) → e ≡ Takes t → Planned t (length p) B)
   told-plan e q = (q, λ k _ t u. enter-plan k t (sym q ∙ u))

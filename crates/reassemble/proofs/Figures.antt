@@ -1,4 +1,4 @@
--- Worked figures for one slot: what the definitions give for packets whole, too long and too short, and for a slot's time.
+-- Worked figures for one slot: what the definitions give for packets that are whole, too long and too short, and for a slot's time.
 -- Each holds by computation.
 use Prim.Native.Nat.{ℕ}
 use mathlib.Core.Path.{_≡_, refl}

@@ -39,7 +39,7 @@ pub struct Taken {
     pub whole: bool,
 }
 
-// Destination own or 0.
+// Whether the destination is the own EID or 0.
 fn is_local(own: Eid, dest: Eid) -> bool
     ensures { λ r. ⌜ r ≡ isLocal own dest ⌝ }
 {
@@ -49,7 +49,7 @@ fn is_local(own: Eid, dest: Eid) -> bool
     dest.0 == Eid::NULL.0
 }
 
-// A good header to own or 0.
+// Whether a packet has a good header and goes to the own EID or 0.
 pub fn is_local_dest(own: Eid, packet: &[u8]) -> bool
     ensures { λ r. ⌜ r ≡ localPacket own (now (packet .entry)) ⌝ }
 {
@@ -59,7 +59,7 @@ pub fn is_local_dest(own: Eid, packet: &[u8]) -> bool
     }
 }
 
-// What an empty slot asks of a header: destination own or 0, source not 255, SOM.
+// Whether a header may open an empty slot: its destination is the own EID or 0, its source is not 255, and it has SOM.
 pub fn opens(own: Eid, h: Header) -> bool
     ensures { λ r. ⌜ r ≡ opening own h ⌝ }
 {
@@ -105,7 +105,7 @@ pub fn gate_reply(h: Header, stands: bool, cookie: Cookie) -> Gate
     Gate::Shut(Error::Unreachable)
 }
 
-// Rule 46: SOM sets type, IC and the sequence to expect, empties the body, stamps the slot. The cookie stays.
+// Rule 46: SOM sets type, IC and the sequence to expect, empties the body and stamps the slot. The cookie stays.
 fn begin(s: Reassembler, h: Header, kind: u8, stamp: EventStamp) -> Reassembler
     ensures { λ r. ⌜ r ≡ begun stamp h kind s ⌝ }
 {
@@ -128,7 +128,7 @@ fn begin(s: Reassembler, h: Header, kind: u8, stamp: EventStamp) -> Reassembler
     }
 }
 
-// Rules 49 and 50: n bytes more; with EOM done, stamped, handle out.
+// Rules 49 and 50: the slot with n more bytes; with EOM it is done and stamped, and its handle is out.
 fn grow(s: Reassembler, eom: bool, stamp: EventStamp, issue: u64, n: usize) -> Reassembler
     requires { ⌜ s .len + n < 2 ^ 64 ⌝ }
     ensures { λ r. ⌜ r ≡ appended eom stamp issue n s ⌝ }
@@ -165,7 +165,7 @@ fn grow(s: Reassembler, eom: bool, stamp: EventStamp, issue: u64, n: usize) -> R
     }
 }
 
-// Whether n bytes more are too many for a body of `len` bytes that holds at most `most`.
+// Whether n more bytes are too many for a body of `len` bytes that may have at most `most`.
 fn overfills(len: usize, n: usize, most: usize) -> bool
     ensures { λ r. ⌜ r ≡ ltb most (len + n) ⌝ }
 {
@@ -175,7 +175,7 @@ fn overfills(len: usize, n: usize, most: usize) -> bool
     most - len < n
 }
 
-// Steps 5 and 6 for a body that starts at `start`; `most` is the most that a body holds.
+// Rules 47 to 50 for a packet whose body starts at `start`; `most` is the most bytes that a body holds.
 fn accept(
     s: Reassembler,
     h: Header,
@@ -205,7 +205,7 @@ fn accept(
     })
 }
 
-// Steps 3 to 6: what a packet with that header makes of a slot.
+// Rules 45 to 50: what a packet with that header makes of a slot.
 pub fn receive(
     s: Reassembler,
     h: Header,

@@ -13,7 +13,7 @@ use Rattle.receiving.specs.declared.Received.{Received}
 use Rattle.slot.specs.Handle.{nextIssue}
 use Rattle.receiving.specs.Conclude.{saidOf, flowsAfter, concluded}
 
--- a whole message: its handle's number, then its flow's end
+-- for a whole message its handle takes its number, and then its flow ends
 pub ended : (z : Sizes) (b x y : List ℕ) (k : Key) (issue : ℕ) → issue ≡ nextIssue (stackOf z b .head .issue)
     → Becomes z b x (withHead (withIssue issue (stackOf z b .head)) (stackOf z b))
     → Becomes z x y (withFlows (flowsAfter true k (stackOf z x .flows)) (stackOf z x))

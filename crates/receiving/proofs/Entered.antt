@@ -1,5 +1,5 @@
--- What a packet makes of a slot has the ranges of a slot, and so has what a gate passes; a good header's tag and sequence have theirs; and the bytes
--- that a plan moves lie in the pool.
+-- The slot that a packet makes has its ranges, and so has the slot that a gate passes and the tag and sequence of a good header. And the bytes that a plan
+-- moves lie within the pool.
 use Prim.Native.Nat.{ℕ, _+_, _-_, _*_, _%_, _^_, _≤_, _<_}
 use native.Mathlib.Omega.{arith}
 use mathlib.Core.Path.{_≡_, sym, ap, subst, _∙_}
@@ -38,7 +38,7 @@ use Rattle.state.specs.Slot.{SlotOk, issueNo}
 use Rattle.state.specs.Stack.{Stack, Kept, Becomes, stackOf, ticked}
 use Rattle.state.proofs.StackLaws.{flow-ok, head-ok}
 
--- bytes that fit slot i's body fit the pool
+-- bytes that fit slot i's body lie within the pool
 pub in-pool : (B i n at len : ℕ) → i < n → at + len ≤ B → B * i + at + len ≤ B * n
 in-pool B i n at len h f =
     let p = place-is B 0 i in
@@ -57,7 +57,7 @@ module _ (at from : ℕ) (packet pool : List ℕ) (fits : at + (length packet - 
   lent-fits : length lent ≤ length (take (length pool - at) (drop at pool))
   lent-fits = rw (rest, take-all (length pool - at) (drop at pool) (rw length-drop (omega arith)), length-drop, length-drop) (omega arith)
 
-  -- and copied into it: what the pool holds once that comes back as e
+  -- and what the pool holds once it is copied and comes back as e
   pub copied : (e : List ℕ) → e ≡ lay 0 lent (take (length pool - at) (drop at pool))
       → take at pool ++ (e ++ drop (length pool - at) (drop at pool)) ≡ over at (drop from packet) pool
   copied e h = let l = length-drop from packet in lent-front at (drop from packet) pool (omega arith) (rw rest at (h ∙ lay-front lent (take (length pool - at) (drop at pool)) lent-fits))
@@ -74,7 +74,7 @@ ticked-ok z b x t e m =
     subst StampOk (ap (λ (s : Stack). s .head .now) (m .view) ∙ sym e) (record { counter = h .counter; clock = h .clock })
 
 module _ (B : ℕ) (now : EventStamp) (issue : ℕ) (h : Header) (p : List ℕ) (small : B ≤ 65535) (stamp : StampOk now) (fits : issue < 2 ^ 64) where
-  -- n bytes more, in another state and with another stamp
+  -- a slot with n more bytes, in another state and with another stamp
   grown-ok : (n : ℕ) (t : Reassembler) (state : State) (at : EventStamp) → SlotOk B t → t .len + n ≤ B → issueNo state < 2 ^ 64 → StampOk at
       → SlotOk B (record { state = state; key = t .key; typ = t .typ; ic = t .ic; «next_seq» = (t .«next_seq» % 4 + 1) % 4; len = t .len + n; cookie = t .cookie; stamp = at })
   grown-ok n t state at ok l issued stamped = record {

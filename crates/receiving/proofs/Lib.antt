@@ -1,4 +1,4 @@
--- The laws that receive's proofs share, and that two outcomes of it are one.
+-- The laws that receive's proofs share, and that receive has only one outcome.
 pub mod Entered
 pub mod Receipts
 pub mod MiddleLaws

@@ -1,4 +1,4 @@
--- A middle packet: one event is counted, of its slot the sequence and the length alone change, and its bytes go where the body ends.
+-- A middle packet: one event is counted, only the sequence and the length of its slot change, and its bytes go where the body ends.
 use Prim.Native.Nat.{ℕ, _+_, _-_, _%_, _≤_}
 use native.Mathlib.Omega.{arith}
 use mathlib.Core.Path.{_≡_, sym, ap, subst, _∙_}
@@ -36,7 +36,7 @@ goes h g n B =
     (λ same e. record { som = som; eom = eom; seq = eqb-true (h .seq) (g .seq) same; room = leb-true n (B - g .len) e })
     (λ _ e. false-true e)))
 
--- what such a packet has room for
+-- such a packet fits the body
 pub goes-room : (h : Header) (g : Progress) (n B : ℕ) → g .len ≤ B → isMiddle h g n B ≡ true → g .len + n ≤ B
 goes-room h g n B l e = let r = goes h g n B e .room in omega arith
 
@@ -62,7 +62,7 @@ module _ (B : ℕ) (h : Header) (p : List ℕ) (s : Reassembler) where
     unfolding land
     landed l e = ap (settled B i (ticked st) (h .key) p) (entry _ _ l e)
 
-    -- the event, then the slot with that sequence and length, and the packet's bytes behind the body
+    -- the event is counted, then the slot gets that sequence and length, and the packet's bytes go behind the body
     pub middle : (g : Progress) → g ≡ progressOf s → g .len ≤ B → isMiddle h g (length p - 4) B ≡ true
         → land B i st h p (Pass s) ≡ settled B i (ticked st) (h .key) p (grown p s (h .seq) (g .len))
     middle g q =

@@ -1,4 +1,4 @@
--- What a receive makes, step by step: stores one after the other, refusals, and which case of the definition a search or a test picks.
+-- What a receive makes, step by step: one store after another, refusals, and which case of the definition a search or a test picks.
 use Prim.Native.Nat.{ℕ, _*_, _≤_, _<_}
 use mathlib.Core.Path.{_≡_, refl, sym, ap, subst, _∙_}
 use mathlib.Core.Bool.{Bool, true, false}
@@ -41,7 +41,7 @@ use Rattle.receiving.specs.declared.Received.the-variants.{Refused}
 use Rattle.slot.specs.Handle.{nextIssue}
 use Rattle.receiving.specs.Receive.{Receipt, Makes, refuse, settled, land, receiveAt, receiveBy, receiveOf}
 
--- rules 44 and 45: the slot that the packet enters, the event's stamp and the number are the definition's
+-- rule 44: the slot that the packet enters, the event's stamp and the number are the definition's
 pub lands : (B i : ℕ) (st : Stack) (h : Header) (p : List ℕ) (s : Reassembler) (e : Entry) (t : EventStamp) (n : ℕ)
     → e ≡ enter B t n s h p → t ≡ next (st .head .now) → n ≡ nextIssue (st .head .issue)
     → settled B i (ticked st) (h .key) p e ≡ land B i st h p (Pass s)
@@ -51,7 +51,7 @@ lands B i st h p s e t n u v w =
     (u ∙ ap (λ (x : EventStamp). enter B x n s h p) v ∙ ap (λ (m : ℕ). enter B (next (st .head .now)) m s h p) w)
 
 module _ (z : Sizes) (r : Received) where
-  -- the same receipt, said otherwise
+  -- the same receipt, written in another way
   pub makes-as : {b b′ pool pool′ : List ℕ} {s t : Receipt} → s ≡ t → Makes z s r b b′ pool pool′ → Makes z t r b b′ pool pool′
   makes-as {b} {b′} {pool} {pool′} e m = subst (λ (x : Receipt). Makes z x r b b′ pool pool′) e m
 
@@ -113,7 +113,7 @@ module _ (B : ℕ) (st : Stack) (p : List ℕ) where
   unfolding receiveBy slotFor
   bad-out h = pick-false _ _ _ (le-ltb (find isEmpty (st .slots)) (length (st .slots)) h)
 
-  -- of a bad header nothing is written
+  -- a packet with a bad header writes nothing
   pub bad-writes : (pool : List ℕ) → over (receiveBy B st p Bad .at) (receiveBy B st p Bad .bytes) pool ≡ pool
   unfolding receiveBy receiveAt
   bad-writes pool =

@@ -21,13 +21,13 @@ abbrev pub saidOf : Bool → ℕ → ℕ → Received
 saidOf true i issue = Message (record { index = i; issue = issue })
 saidOf false i issue = More
 
--- 0 while more is to come; 0 and a handle with a message
+-- 0 while more is to come, 0 and a handle with a message, or the refusal's number
 abbrev pub receivedAs : Received → Answer
 receivedAs More = gives []
 receivedAs (Message h) = gives (handleWords h)
 receivedAs (Refused err) = refuses (errorNo err) []
 
--- rules 49 and 50: with EOM, if TO=0 the flow is removed, and if it has gone already nothing happens
+-- rule 50: with EOM and TO=0 the flow is removed; where it has gone already nothing happens
 abbrev pub flowsAfter : Bool → Key → List Flow → List Flow
 flowsAfter true k flows = pick (k .owner) flows (removed (k .source) (k .tag) flows)
 flowsAfter false k flows = flows

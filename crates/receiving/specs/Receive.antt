@@ -52,17 +52,17 @@ settled B i st k p (Takes t) = record {
   bytes = drop (t .from) p;
 }
 
--- rules 44 and 45: one event is counted, and the packet enters the slot
+-- rule 44: one event is counted, and the packet enters the slot
 unfoldable pub land : ℕ → ℕ → Stack → Header → List ℕ → Gate → Receipt
 land B i st h p (Shut err) = refuse err st
 land B i st h p (Pass s) =
     settled B i (ticked st) (h .key) p (enter B (ticked st .head .now) (nextIssue (st .head .issue)) s h p)
 
--- a middle packet of n bytes: neither first nor last, in turn, with room
+-- whether a packet with n bytes of body is a middle one: it is neither first nor last, comes in turn, and has room
 unfoldable pub isMiddle : Header → Progress → ℕ → ℕ → Bool
 isMiddle h p n B = pick (h .som) false (pick (h .eom) false (pick (eqb (h .seq) (p .seq)) (leb n (B - p .len)) false))
 
--- rules 40 to 42: for an empty slot one event is counted
+-- rule 40: for an empty slot one event is counted
 abbrev pub countedOpening : Bool → Stack → Stack
 countedOpening empty st = pick empty (ticked st) st
 
@@ -70,21 +70,21 @@ abbrev pub gateOf : ℕ → Stack → Header → Gate
 gateOf i st h =
     gate (st .head .«own_eid») (slotAt i st) h (standing (h .key .source) (h .key .tag) (st .flows)) (flowCookie (h .key .source) (h .key .tag) (st .flows))
 
--- a bad header comes to an empty slot alone
+-- a packet with a bad header comes to no slot but an empty one
 unfoldable pub receiveAt : ℕ → ℕ → Stack → List ℕ → HeaderRead → Receipt
 receiveAt B i st p Bad = refuse InvalidInput (countedOpening (isEmpty (slotAt i st)) st)
 receiveAt B i st p (Good h) = land B i (countedOpening (isEmpty (slotAt i st)) st) h p (gateOf i st h)
 
--- rule 39
+-- rule 39: without a slot it is NoSpace
 unfoldable pub receiveBy : ℕ → Stack → List ℕ → HeaderRead → Receipt
 receiveBy B st p r =
     pick (ltb (slotFor r (st .slots)) (length (st .slots))) (receiveAt B (slotFor r (st .slots)) st p r) (refuse NoSpace st)
 
--- `room` is the length of the pool that is lent
+-- rule 38: a pool that is too short is PoolShort; `room` is the length of the pool that is lent
 unfoldable pub receiveOf : ℕ → Stack → ℕ → List ℕ → Receipt
 receiveOf B st room p = pick (ltb room (B * length (st .slots))) (refuse PoolShort st) (receiveBy B st p (headerOf p))
 
--- what a receive makes of the bytes of state and pool: what is said, the stack that is then held, the one write
+-- what a receive makes of the bytes of state and pool: what is said, the stack that the state then holds, and the one write to the pool
 pub record Makes (z : Sizes) (rc : Receipt) (r : Received) (b b′ pool pool′ : List ℕ) : Type 0 where
   pub said : r ≡ rc .said
   pub stack : Becomes z b b′ (rc .stack)

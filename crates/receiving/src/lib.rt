@@ -50,7 +50,7 @@ pub fn receive(state: &mut [u8], sizes: Sizes, pool: &mut [u8], packet: &[u8]) -
     }
 }
 
-// A bad header matches no slot, and takes the empty slot's way.
+// A bad header matches no collecting slot: it is refused at an empty slot, or for want of one.
 fn receive_bad(state: &mut [u8], sizes: Sizes, packet: &[u8]) -> Received
     requires { ⌜ Kept sizes (now state) ⌝ }
     ensures { λ r. ⌜ (r ≡ receiveBy (sizes .body) (stackOf sizes (now (state .entry))) (now (packet .entry)) Bad .said) × Becomes sizes (now (state .entry)) (now (state .exit)) (receiveBy (sizes .body) (stackOf sizes (now (state .entry))) (now (packet .entry)) Bad .stack) ⌝ }
@@ -84,7 +84,7 @@ fn receive_good(
     Received::Refused(Error::NoSpace)
 }
 
-// A slot that collects the key: a middle packet goes the short way.
+// The packet comes to a slot that collects its key; a middle packet takes the shortcut.
 fn receive_collecting(
     state: &mut [u8],
     sizes: Sizes,
@@ -106,7 +106,7 @@ fn receive_collecting(
     feed(state, sizes, pool, packet, h, i, s)
 }
 
-// Rules 40 to 42: an empty slot counts one event, and its gate looks at the packet.
+// Rules 40 to 42: for an empty slot one event is counted, and its gate looks at the packet.
 fn receive_opening(
     state: &mut [u8],
     sizes: Sizes,
@@ -140,7 +140,7 @@ fn gate_empty(state: &[u8], sizes: Sizes, h: Header) -> Gate
     Gate::Shut(Error::InvalidInput)
 }
 
-// A reply asks for its flow.
+// Rule 41: a reply passes only where its flow stands.
 fn gate_by_flow(state: &[u8], sizes: Sizes, h: Header) -> Gate
     requires { ⌜ Kept sizes (now state) ⌝ }
     ensures { λ r. ⌜ r ≡ gateReply h (standing (h .key .source) (h .key .tag) (stackOf sizes (now (state .entry)) .flows)) (flowCookie (h .key .source) (h .key .tag) (stackOf sizes (now (state .entry)) .flows)) ⌝ }
@@ -156,7 +156,7 @@ fn gate_by_flow(state: &[u8], sizes: Sizes, h: Header) -> Gate
     reassemble::gate_reply(h, false, Cookie::Absent)
 }
 
-// Steps 3 to 6: one event is counted, and the packet enters slot i, which is s.
+// Rules 44 to 51: one event is counted, and the packet enters slot i, which is s.
 fn feed(
     state: &mut [u8],
     sizes: Sizes,
@@ -205,7 +205,7 @@ fn settle(
 
 // ---- the end of a receive
 
-// A reply that is whole ends its flow.
+// A whole reply ends its flow.
 fn close(state: &mut [u8], sizes: Sizes, key: Key)
     requires { ⌜ Kept sizes (now state) ⌝ }
     ensures { λ _. ⌜ Becomes sizes (now (state .entry)) (now (state .exit)) (withFlows (flowsAfter true key (stackOf sizes (now (state .entry)) .flows)) (stackOf sizes (now (state .entry)))) ⌝ }

@@ -49,33 +49,33 @@ module _ (now : ℕ) (st : Stack) where
       go n r (inl e) (inr q) = inr (inl (q .0, q .1 ∙ ap Left (sym e)))
 
 -- what the first number of an update is: the gap to the planned check, or the least of 100 and every remaining time
-abbrev pub Tells : ℕ → Stack → ℕ → Type 0
-Tells now st n = ((now < st .head .«next_timeout») × (n ≡ st .head .«next_timeout» - now)) ⊎ Remaining n now st
+abbrev pub ToldTime : ℕ → Stack → ℕ → Type 0
+ToldTime now st n = ((now < st .head .«next_timeout») × (n ≡ st .head .«next_timeout» - now)) ⊎ Remaining n now st
 
 -- of what an update says, if it does not refuse
-abbrev Told : ℕ → Stack → Updated → Type 0
-Told now st (Next n any) = Tells now st n × (HeadOk (st .head) → n ≤ interval)
-Told now st (Refused err) = Unit
+abbrev ToldBy : ℕ → Stack → Updated → Type 0
+ToldBy now st (Next n any) = ToldTime now st n × (HeadOk (st .head) → n ≤ interval)
+ToldBy now st (Refused err) = Unit
 
-told-of : (now : ℕ) (st : Stack) → Told now st (updateOf now st .said)
+told-of : (now : ℕ) (st : Stack) → ToldBy now st (updateOf now st .said)
 unfolding updateOf checked
 told-of now st =
-    pick-cases (λ (u : Update). Told now st (u .said)) (λ _. tt)
+    pick-cases (λ (u : Update). ToldBy now st (u .said)) (λ _. tt)
     (λ (e : ltb now (st .head .now .clock) ≡ false).
-    pick-cases (λ (u : Update). Told now st (u .said))
+    pick-cases (λ (u : Update). ToldBy now st (u .said))
     (λ y. (inl (ltb-true now (st .head .«next_timeout») y, refl), λ ok. let l = ltb-false now (st .head .now .clock) e in omega (arith, ok .soon)))
     (λ _. (inr (remaining now st), λ _. remaining now st .most)))
 
 -- the same, and that it is at most 100
 pub record Number (now : ℕ) (st : Stack) (n : ℕ) : Type 0 where
   pub soon : n ≤ interval
-  pub is : Tells now st n
+  pub is : ToldTime now st n
 
 module _ (now : ℕ) (st : Stack) (n : ℕ) (any : Bool) where
-  told : updateOf now st .said ≡ Next n any → Told now st (Next n any)
+  told : updateOf now st .said ≡ Next n any → ToldBy now st (Next n any)
   told e = rw e at (told-of now st)
 
-  pub told-time : updateOf now st .said ≡ Next n any → Tells now st n
+  pub told-time : updateOf now st .said ≡ Next n any → ToldTime now st n
   told-time e = told e .0
 
   pub updates-number : HeadOk (st .head) → updateOf now st .said ≡ Next n any → Number now st n

@@ -10,7 +10,7 @@ use vectors_calls::NONE;
 
 // ---- reading
 
-// The next n bytes of the list; whether they are there.
+// Reads the next n bytes of the list, and tells whether they are there.
 fn read(b: &mut [u8], n: usize) -> bool {
     if b.len() < n {
         return false;
@@ -18,7 +18,7 @@ fn read(b: &mut [u8], n: usize) -> bool {
     io::read_full(0, &mut b[0..n]) == n
 }
 
-// The next n numbers of eight bytes.
+// Reads the next n numbers of eight bytes, and tells whether they are there.
 fn read_words(w: &mut [u64], n: usize) -> bool
     requires { ⌜ n ≤ length (now w) ⌝ }
 {
@@ -80,7 +80,7 @@ fn same_words(a: &[u64; 16], b: &[u64; 16]) -> bool {
     true
 }
 
-// What a turn of the list ends in: no record is left, the answer is the one that stands in the list, or another.
+// How a turn of the list ends: no record is left, or the answer is the one that stands in the list, or it is another.
 enum Outcome {
     End,
     Same,
@@ -116,7 +116,7 @@ fn same(
 
 // ---- the list
 
-// The next record of the list.
+// Performs the next record of the list.
 fn turn(
     state: &mut [u8],
     pools: &mut [u8; 8400],
@@ -168,7 +168,7 @@ fn report(calls: u64, well: bool) {
 
 const MOST_CALLS: u64 = 1000000;
 
-// The whole list, on a stack of its own.
+// Replays the whole list, on a stack of its own.
 fn replay(state: &mut [u8]) {
     if board::hyphaloom_new(state, 8, 64, 0) != 0 {
         return;

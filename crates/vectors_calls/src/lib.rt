@@ -1,4 +1,4 @@
-// A call by its number, as a stored list of calls has it: what is asked, and what it answers, as numbers and bytes. A part of the program `vectors`.
+// A call by its number, as a stored list of calls has it: what is asked and what is answered, as numbers and bytes. It is a part of the program `vectors`.
 // Every call on a stack goes through `performing::perform`, whose contract is the model that the theorems speak of; oracle/README.md has the list's form.
 // Leans on `performing` for the calls, on `copying` for bytes.
 ghost use mathlib.Core.Path.{_≡_};
@@ -8,7 +8,8 @@ ghost use Rattle.state.specs.Stack.{Kept};
 ghost use Rattle.board.specs.Board.{board};
 use rows::narrow;
 
-// Half a record: what is asked, a call's number with its numbers and bytes; or in the same form what is answered. The numbers and bytes lie beside it.
+// Half a record: what is asked, or in the same form what is answered. It has the number of the call or of the answer, and how many numbers and bytes come with
+// it; those lie beside it.
 pub struct Half {
     pub there: bool,
     pub first: u8,
@@ -34,7 +35,7 @@ fn answer(first: u8, words: usize, bytes: usize) -> Half
     }
 }
 
-// A row at the front of the numbers answered.
+// Puts a row at the front of the numbers answered.
 fn put_row(got: &mut [u64; 16], row: &[u64]) {
     let mut i = 0;
     while i < row.len() {
@@ -46,7 +47,7 @@ fn put_row(got: &mut [u64; 16], row: &[u64]) {
     }
 }
 
-// Bytes to the front of a buffer: how many; none where there is no room.
+// Puts bytes at the front of a buffer, and tells how many; none where there is no room.
 fn put(to: &mut [u8], bytes: &[u8]) -> usize {
     let n = bytes.len();
     if to.len() < n {
@@ -58,7 +59,7 @@ fn put(to: &mut [u8], bytes: &[u8]) -> usize {
 
 // ---- calls on a stack
 
-// A new stack in the same bytes; where it is refused, the old one stands.
+// Makes a new stack in the same bytes; where it is refused, the old one stays.
 fn renew(state: &mut [u8], w: &[u64; 16]) -> u8
     requires { ⌜ Kept board (now state) ⌝ }
     ensures { λ _. ⌜ Kept board (now (state .exit)) ⌝ }
@@ -66,7 +67,7 @@ fn renew(state: &mut [u8], w: &[u64; 16]) -> u8
     performing::begin(state, narrow(w[0]), w[1] as usize, w[2])
 }
 
-// The row that a call answers in: how many numbers.
+// Puts the row in which a call answers, and tells how many numbers it has.
 fn put_told(
     op: u8,
     two: &[u64; 2],
@@ -91,7 +92,7 @@ fn put_told(
     }
 }
 
-// One call, lent that pool.
+// Performs one call, lent that pool.
 fn call(
     op: u8,
     state: &mut [u8],
@@ -133,7 +134,7 @@ struct Span {
     end: usize,
 }
 
-// n bytes from byte `at` of a pool; none where they do not lie in the pools.
+// Where the n bytes from byte `at` of a pool lie; none where they do not lie within the pools.
 fn place(pool: u64, at: u64, n: u64, room: usize) -> Span
     ensures { λ r. ⌜ (r .from ≤ r .end) × (r .end ≤ room) ⌝ }
 {
@@ -154,7 +155,7 @@ fn place(pool: u64, at: u64, n: u64, room: usize) -> Span
     }
 }
 
-// Bytes of a pool, as they are.
+// Copies out bytes of a pool, as they are.
 fn take(pools: &[u8], pool: u64, at: u64, n: u64, body: &mut [u8]) -> usize {
     let part = place(pool, at, n, pools.len());
     let from = part.from;
@@ -162,7 +163,7 @@ fn take(pools: &[u8], pool: u64, at: u64, n: u64, body: &mut [u8]) -> usize {
     put(body, &pools[from..end])
 }
 
-// A receive or a fetch, whose first two numbers say which pool and how much of it; then come the call's own.
+// A receive or a fetch: its first two numbers say which pool it is lent and how much of it; then come the call's own numbers.
 fn pooled(
     op: u8,
     state: &mut [u8],
@@ -212,7 +213,7 @@ fn plain(
 
 // ---- sending: the fragmenter's row and the payload stay from call to call
 
-// One step into a buffer of `room` bytes.
+// Takes one step into a buffer of `room` bytes.
 fn step(
     f: &mut [u64; 13],
     payload: &[u8],
@@ -236,7 +237,7 @@ fn step(
 
 // ---- the list
 
-// One call, whatever its number.
+// Performs one call, whatever its number.
 pub fn perform(
     op: u8,
     state: &mut [u8],

@@ -182,7 +182,7 @@ fn time<S: Subject>(work: Work, kind: Kind, count: usize) -> f64 {
 
 type Timer = fn(Work, Kind, usize) -> f64;
 
-/// The original first: the others are held against it.
+/// The original comes first, since the others are compared with it.
 const SUBJECTS: &[(&str, Timer)] = &[
     ("original", time::<Original>),
     #[cfg(board)]

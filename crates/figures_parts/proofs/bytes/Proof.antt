@@ -1,4 +1,4 @@
--- `bytes` ends: each turn leaves one byte fewer, and it reads only where there is one.
+-- `bytes` ends, since each turn leaves one byte fewer, and it reads only where there is a byte.
 use Prim.Native.Nat.{_-_}
 use borrow.Author.Needs.{needs}
 use Rattle.figures_parts.proofs.bytes.Statement.{statement}

@@ -1,6 +1,6 @@
--- `cut` meets its contract: a walk of its MIR, by hand. The record is copied into a local, which is lent for a lifetime that is made for the call of
+-- `cut` meets its contract, by a walk of its MIR. The record is copied into a local, which is lent for a lifetime that is made for the call of
 -- `Fragmenter::fragment`; of that the proof knows only its contract. Once the lifetime is over the local is taken back at the record that the call left,
--- and copied into the result beside the answer. `payload` and `out` go to the callee at their own lifetimes. Assumes nothing.
+-- and copied into the result beside the answer. `payload` and `out` go to the callee at their own lifetimes. It assumes nothing.
 use mathlib.Core.Path.{_≡_, refl, ap}
 use Prim.Native.Nat.{ℕ}
 use mathlib.Core.List.{[], _∷_, List}

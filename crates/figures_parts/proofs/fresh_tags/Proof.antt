@@ -1,4 +1,4 @@
--- `fresh_tags` ends: each turn leaves one fewer, and a state that is kept.
+-- `fresh_tags` ends, since each turn leaves one send fewer; and each turn leaves a kept state.
 use mathlib.Core.Path.{_≡_}
 use lib.ListN.{length}
 use borrow.Author.Needs.{needs}

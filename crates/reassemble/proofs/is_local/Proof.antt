@@ -1,4 +1,4 @@
--- `is_local` compares with own and then with 0, in the definition's order.
+-- `is_local` compares with the own EID and then with 0, in the definition's order.
 use Rattle.octets.proofs.Tests.{picks}
 use Rattle.reassemble.specs.Enter.{isLocal}
 use Rattle.reassemble.proofs.is_local.Statement.{statement}

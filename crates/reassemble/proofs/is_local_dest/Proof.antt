@@ -1,4 +1,4 @@
--- `is_local_dest` tells a packet for us: it asks `is_local` of a good header, and says no to a bad one.
+-- `is_local_dest` tells whether a packet is for us: it asks `is_local` about a good header, and says no to a bad one.
 use mathlib.Core.Path.{sym, _∙_}
 use borrow.Author.Needs.{needs}
 use Rattle.reassemble.proofs.is_local_dest.Statement.{statement}

@@ -1,4 +1,4 @@
--- `receive_bad` looks for an empty slot first: the header is refused there, and NoSpace is said where there is none.
+-- `receive_bad` looks for an empty slot first: where there is one the header is refused, and where there is none it is NoSpace.
 use Prim.Native.Nat.{_≤_, _<_}
 use native.Mathlib.Omega.{arith}
 use mathlib.Core.Path.{sym, ap}

@@ -1,4 +1,4 @@
--- `settle` stores the slot, concludes, and copies the plan's bytes to the slot's place: they fit the body, so they fit the pool.
+-- `settle` stores the slot, concludes, and copies the plan's bytes to the slot's part of the pool: they fit the body, so they lie within the pool.
 use Prim.Native.Nat.{ℕ, _+_, _*_, _-_, _≤_}
 use native.Mathlib.Omega.{arith}
 use mathlib.Core.Path.{ap, _∙_}

@@ -1,4 +1,4 @@
--- `read_words`: each turn reads one number more; eight bytes stay eight.
+-- `read_words`: each turn reads one more number, and the buffer of eight bytes stays eight bytes long.
 use Prim.Native.Nat.{_-_}
 use mathlib.Core.Path.{_≡_}
 use lib.ListN.{length}
