@@ -1,4 +1,6 @@
 -- `new` meets its contract: the tests come in the definition's order.
+use native.Mathlib.Omega.{arith}
+use borrow.Author.Tests.{lt-ltb}
 use Rattle.octets.proofs.Tests.{picks}
 use Rattle.fragment.specs.Step.{newOf}
 use borrow.Author.Needs.{needs}
@@ -22,7 +24,9 @@ returns-3 c = search (picks, ← c .before .before .before .before .before .tag 
 
 returns-4 : tie.Need-returns-4
 unfolding newOf
-returns-4 c = search (picks, ← c .before .before .before .before .before .before .tag .ensures)
+returns-4 c =
+    let i = c .before .before .before .before .before .before in
+    search (lt-ltb 255 (i .before .args .mtu) (omega arith), picks, ← i .tag .ensures)
 
 returns-5 : tie.Need-returns-5
 unfolding newOf

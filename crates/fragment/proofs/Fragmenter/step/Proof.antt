@@ -19,7 +19,7 @@ output-requires : tie.Need-output-requires
 output-requires c κs = search needs
 
 write-plan-requires : tie.Need-write-plan-requires
-write-plan-requires c κs = c .before .before .before .plan .ensures .1
+write-plan-requires c κs = search needs
 
 same-length : tie.Need-same-length
 same-length c = search needs
