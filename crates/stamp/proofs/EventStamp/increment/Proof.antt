@@ -1,4 +1,6 @@
 -- `increment` is `next`: one more, or the largest value, which stays.
+use native.Mathlib.Omega.{arith}
+use borrow.Author.Tests.{lt-ltb}
 use borrow.Author.Needs.{needs}
 use Rattle.octets.proofs.Tests.{picks}
 use Rattle.stamp.specs.Stamp.{next}
@@ -10,7 +12,7 @@ add-t3 c = search needs
 
 returns : tie.Need-returns
 unfolding next
-returns c = search picks
+returns c = search (lt-ltb (c .before .before .before .args .self .counter) 4294967295 (omega arith), picks)
 
 returns-2 : tie.Need-returns-2
 unfolding next
