@@ -10,7 +10,9 @@ use Rattle.mctp.specs.declared.Cookie.{Cookie}
 use Rattle.mctp.specs.declared.Error.the-variants.{BadArgument}
 use Rattle.mctp.specs.Answer.{gives, answerNo, rowAfter}
 use Rattle.mctp.proofs.Answers.{error-some}
-use Rattle.slot.specs.Slot.{isEmpty}
+use Rattle.slot.specs.declared.State.the-variants.{Done as Waiting}
+use Rattle.slot.specs.Slot.{blankSlot, isEmpty, withState, withSlotCookie}
+use Rattle.slot.specs.declared.Reassembler.{Reassembler}
 use Rattle.state.specs.Stack.{stackOf, Kept, Becomes}
 use Rattle.state.proofs.StackLaws.{slots-length}
 use Rattle.slot.specs.declared.ReceiveHandle.{ReceiveHandle}
@@ -20,7 +22,7 @@ use Rattle.slot.specs.Handle.{handleWords}
 use Rattle.receiving.specs.Conclude.{receivedAs}
 use Rattle.handles.specs.declared.Fetched.{Fetched}
 use Rattle.handles.specs.declared.Fetched.the-variants.{Refused as Unfetched}
-use Rattle.handles.specs.Handles.{isGood, handled, fetchedAs, fetchOf}
+use Rattle.handles.specs.Handles.{isGood, handled, doneAs, fetchedAs, fetchOf}
 use Rattle.promises.specs.Calls.{World, receive, fetchMessage, finishedReceive, returnHandle, setCookie, step, steps, receipt, performed}
 use Rattle.promises.specs.Delivery.{Hands, messageAt, allOf}
 use Rattle.promises.specs.History.{Exactly, history, logged}
@@ -86,23 +88,27 @@ abbrev Rejected : Deed → List ℕ → Type 0
 Rejected d b = (d .said ≡ 3) × Becomes board b (d .after) (stackOf board b)
 
 module _ (h : ReceiveHandle) (d : Deed) (b : List ℕ) (e : isGood h (stackOf board b) ≡ false) (done : Done d b) where
+  no-good : (f : Reassembler → Reassembler) → answerNo (doneAs (handled f h (stackOf board b) .said)) ≡ 3
+  unfolding handled pick
+  no-good f = rw e
+
   pub finish-stale : d .calls ≡ finishedReceive h ∷ [] → Rejected d b
   unfolding tells steps step handled pick
   finish-stale o =
       let g : Performs (finishedReceive h ∷ []) b (d .after) (d .lent) (d .left) (d .said) = rw o at done in
-      (rw e at (g .said), rw e at (g .stack))
+      (g .said ∙ no-good (λ s. blankSlot), rw e at (g .stack))
 
   pub return-stale : d .calls ≡ returnHandle h ∷ [] → Rejected d b
   unfolding tells steps step handled pick
   return-stale o =
       let g : Performs (returnHandle h ∷ []) b (d .after) (d .lent) (d .left) (d .said) = rw o at done in
-      (rw e at (g .said), rw e at (g .stack))
+      (g .said ∙ no-good (withState Waiting), rw e at (g .stack))
 
   pub cookie-stale : (cookie : Cookie) → d .calls ≡ setCookie h cookie ∷ [] → Rejected d b
   unfolding tells steps step handled pick
   cookie-stale cookie o =
       let g : Performs (setCookie h cookie ∷ []) b (d .after) (d .lent) (d .left) (d .said) = rw o at done in
-      (rw e at (g .said), rw e at (g .stack))
+      (g .said ∙ no-good (withSlotCookie cookie), rw e at (g .stack))
 
   -- a fetch, lent a pool that is long enough, leaves its row as it was, too
   pub fetch-stale : (n : ℕ) → 4128 ≤ n → d .calls ≡ fetchMessage h n ∷ [] → Rejected d b × (d .left .message ≡ d .lent .message)
