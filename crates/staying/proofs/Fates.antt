@@ -10,7 +10,7 @@ use mathlib.Core.Bool.{Bool, true, false, not}
 use mathlib.Core.List.{List, [], _∷_}
 use lib.Dec.{ltb}
 use lib.ListN.{length, getD, set, take, length-set, length-map}
-use borrow.Author.Tests.{ltb-true, eq-eqb}
+use borrow.Author.Tests.{ltb-true, eq-eqb, not-true}
 use Rattle.octets.specs.Pick.{pick-true, pick-false, pick-cases}
 use Rattle.octets.proofs.Bools.{bool-cases}
 use Rattle.octets.proofs.Each.{getD-set, getD-mapped}
@@ -45,7 +45,7 @@ use Rattle.sending.specs.Sends.{startSendOf}
 use Rattle.updating.specs.Update.{Update, checked, updateOf}
 use Rattle.estack.specs.Basics.{eidSet, cancelOf}
 use Rattle.promises.specs.Calls.{Call, receive, elsewhere, update, startSend, cancelFlow, getDeferred, getDeferredByCookie, fetchMessage, finishedReceive, returnHandle, setCookie, setEid, eid, isLocalDest, freeTags, World, step}
-use Rattle.promises.proofs.Facts.{no-both, no-true, and-both}
+use Rattle.promises.proofs.Facts.{no-both, no-true, and-left, and-both}
 use Rattle.promises.proofs.Slots.{parts}
 use Rattle.promises.proofs.Gate.{lands-open}
 use Rattle.promises.proofs.Outcome.{Base, Outcome, quiet, dropped, took, receive-outcome}
@@ -156,6 +156,16 @@ module _ (B : ℕ) (c : Call) (st : Stack) where
 
 -- ---- by a check of time
 
+-- time is checked where the clock is taken and the planned check has come, and nowhere else
+due : (t : ℕ) (st : Stack) → ltb t (st .head .now .clock) ≡ false → ltb t (st .head .«next_timeout») ≡ false → checksAt t st ≡ true
+due t st a b = cc
+
+pub clock-taken : (t : ℕ) (st : Stack) → checksAt t st ≡ true → ltb t (st .head .now .clock) ≡ false
+clock-taken t st y = not-true (ltb t (st .head .now .clock)) (and-left (not (ltb t (st .head .now .clock))) (not (ltb t (st .head .«next_timeout»))) y)
+
+pub check-due : (t : ℕ) (st : Stack) → checksAt t st ≡ true → ltb t (st .head .«next_timeout») ≡ false
+check-due t st y = not-true (ltb t (st .head .«next_timeout»)) (rw (clock-taken t st y) at y)
+
 checked-fate : (B t : ℕ) (st : Stack) (k : ℕ) → checksAt t st ≡ true → Fate B (update t) st k (fadedSlot t (slotAt k st))
 unfolding fadedSlot
 checked-fate B t st k y =
@@ -167,7 +177,7 @@ update-fates B t st =
     pick-cases P (λ _. kept B (update t) st st refl)
     (λ a. pick-cases P (λ _. kept B (update t) st (withStamp (clocked t (st .head .now)) st) refl)
     (λ b. record {
-      each = λ k. rw (getD-mapped (fadedSlot t) (st .slots) k blankSlot (faded-blank t)) (checked-fate B t st k (and-both _ _ (ap not a) (ap not b)));
+      each = λ k. rw (getD-mapped (fadedSlot t) (st .slots) k blankSlot (faded-blank t)) (checked-fate B t st k (due t st a b));
       count = length-map (st .slots) (fadedSlot t);
     }))
   where

@@ -41,7 +41,7 @@ use Rattle.promises.proofs.Walks.{out-of, faded-blank}
 use Rattle.promises.proofs.Quiet.{in-time as young}
 use Rattle.promises.proofs.Stale.{good-is}
 use Rattle.staying.specs.Staying.{spares, tellsOf, checksAt, walksTo, ends, untouched, tells, Fetches}
-use Rattle.staying.proofs.Fates.{done-in, Fate, stays, goes, found, named, filled, fates}
+use Rattle.staying.proofs.Fates.{done-in, clock-taken, check-due, Fate, stays, goes, found, named, filled, fates}
 use Rattle.staying.proofs.Tail.{Whole, whole-stays, room-stays}
 use Rattle.staying.proofs.Stays.{held-stays, kept-short, handed-held, Holds, message-by, fetch-good, handled-slot}
 
@@ -73,8 +73,7 @@ in-time i t st a b =
     let s = slotAt i st in
     is-false (ends i (update t) st)
     (λ e. let y = and-left (checksAt t st) (isExpired (slotTimeout t s)) e in
-    let n = and-left (not (ltb t (st .head .now .clock))) (not (ltb t (st .head .«next_timeout»))) y in
-    let q = ltb-false t (st .head .now .clock) (not-true (ltb t (st .head .now .clock)) n) in
+    let q = ltb-false t (st .head .now .clock) (clock-taken t st y) in
     no-both (isExpired (slotTimeout t s)) (and-right (checksAt t st) (isExpired (slotTimeout t s)) e) (by (s .state) (young (s .stamp) t slotTime (omega arith) b)))
   where
     by : (f : State) → isExpired (timeoutOf (slotAt i st .stamp) t slotTime) ≡ false → isExpired (timeIn f (timeoutOf (slotAt i st .stamp) t slotTime)) ≡ false
@@ -89,10 +88,8 @@ update-ends : (i t : ℕ) (st : Stack) → ends i (update t) st ≡ true → slo
 unfolding updateOf checked fadedSlot pick
 update-ends i t st e =
     let y = and-left (checksAt t st) (isExpired (slotTimeout t (slotAt i st))) e in
-    let a = not-true (ltb t (st .head .now .clock)) (and-left (not (ltb t (st .head .now .clock))) (not (ltb t (st .head .«next_timeout»))) y) in
-    let b = not-true (ltb t (st .head .«next_timeout»)) (and-right (not (ltb t (st .head .now .clock))) (not (ltb t (st .head .«next_timeout»))) y) in
     let x = and-right (checksAt t st) (isExpired (slotTimeout t (slotAt i st))) e in
-    rw (a, b) (getD-mapped (fadedSlot t) (st .slots) i blankSlot (faded-blank t) ∙ rw x)
+    rw (clock-taken t st y, check-due t st y) (getD-mapped (fadedSlot t) (st .slots) i blankSlot (faded-blank t) ∙ rw x)
 
 module _ (peer : Eid) (tag : TagValue) where
   -- a reply that the walk comes to, with its handle not out, is freed
