@@ -1,9 +1,16 @@
 -- `new` refuses in the definition's order; otherwise zeros over the front are a fresh stack (`fresh-becomes`), and the head is stored in it.
-use mathlib.Core.Path.{refl}
+use mathlib.Core.Path.{_≡_, refl}
+use mathlib.Core.Bool.{Bool}
+use native.Mathlib.Omega.{arith}
 use lib.ListN.{replicate}
 use denote.Ref.{now}
+use borrow.Author.Tests.{lt-ltb}
 use borrow.Author.Needs.{needs}
 use Rattle.octets.specs.Bytes.{lay}
+use Rattle.octets.specs.Pick.{pick, pick-cases}
+use Rattle.mctp.specs.declared.Error.the-variants.{BadArgument}
+use Rattle.handles.specs.declared.Done.{Done}
+use Rattle.handles.specs.declared.Done.the-variants.{Refused}
 use Rattle.octets.proofs.Tests.{picks}
 use Rattle.state.proofs.Fresh as fresh
 use Rattle.state.proofs.StackLaws.{andThen}
@@ -13,17 +20,21 @@ use Rattle.estack.specs.Basics.{newSays, freshHead}
 use Rattle.estack.proofs.new.Statement.{statement}
 use Rattle.estack.proofs.new.Tie as tie
 
+-- what BadArgument refuses it refuses, whether or not an earlier test refuses it too
+same-refusal : (b : Bool) (r : Done) → Refused BadArgument ≡ r → Refused BadArgument ≡ pick b (Refused BadArgument) r
+same-refusal b r e = pick-cases (λ (x : Done). Refused BadArgument ≡ x) (λ _. refl) (λ _. e)
+
 returns : tie.Need-returns
 unfolding newSays
-returns c = (search picks, refl)
+returns c = (search (lt-ltb (c .before .before .args .mtu) 5 (omega arith), picks), refl)
 
 returns-2 : tie.Need-returns-2
 unfolding newSays
-returns-2 c = (search picks, refl)
+returns-2 c = (same-refusal _ _ (search picks), refl)
 
 returns-3 : tie.Need-returns-3
 unfolding newSays
-returns-3 c = (search picks, refl)
+returns-3 c = (same-refusal _ _ (search picks), refl)
 
 mul-size : tie.Need-mul-size
 mul-size c = search needs
