@@ -12,6 +12,7 @@ use Rattle.mctp.specs.declared.HeaderRead.{HeaderRead}
 use Rattle.mctp.specs.declared.HeaderRead.the-variants.{Good, Bad}
 use Rattle.mctp.specs.declared.Cookie.{Cookie}
 use Rattle.mctp.specs.Header.{headerOf}
+use Rattle.stamp.specs.Stamp.{next}
 use Rattle.flows.proofs.TableLaws.{counted-clock}
 use Rattle.flows.specs.declared.Wish.{Wish}
 use Rattle.flows.specs.declared.Wish.the-variants.{Fresh as AnyTag, Fixed}
