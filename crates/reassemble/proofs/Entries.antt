@@ -15,7 +15,7 @@ use Rattle.mctp.specs.declared.Error.{Error}
 use Rattle.mctp.specs.declared.Error.the-variants.{InvalidInput, NoSpace}
 use Rattle.stamp.specs.declared.EventStamp.{EventStamp}
 use Rattle.slot.specs.declared.Reassembler.{Reassembler}
-use Rattle.reassemble.specs.declared.Taken.{Taken}
+use Rattle.reassemble.specs.declared.Intake.{Intake}
 use Rattle.reassemble.specs.declared.Entry.{Entry}
 use Rattle.reassemble.specs.declared.Entry.the-variants.{Frees, Takes}
 use Rattle.reassemble.specs.Enter.{enter, append, appended, Planned}
@@ -27,16 +27,16 @@ pub record Entered (B : ℕ) (s t : Reassembler) : Type 0 where
   pub key : t .key ≡ s .key
 
 -- P of what is taken, and nothing of a packet that frees the slot
-abbrev pub OfTaken : (Taken → Type 0) → Entry → Type 0
+abbrev pub OfTaken : (Intake → Type 0) → Entry → Type 0
 OfTaken P (Frees err) = Unit
 OfTaken P (Takes t) = P t
 
 -- what holds of what is taken at each end of a packet's way: with SOM and more than 4 bytes, and without it, in turn and with room
-by-steps : (P : Taken → Type 0) (e : Entry) {som short seq full seq' full' : Bool} {begins goes-on : Taken} (brief wrong over : Error)
+by-steps : (P : Intake → Type 0) (e : Entry) {som short seq full seq' full' : Bool} {begins goes-on : Intake} (brief wrong over : Error)
     → e ≡ pick som (pick short (Frees brief) (pick seq (pick full (Frees over) (Takes begins)) (Frees wrong))) (pick seq' (pick full' (Frees over) (Takes goes-on)) (Frees wrong))
     → (som ≡ true → short ≡ false → seq ≡ true → full ≡ false → P begins)
     → (som ≡ false → seq' ≡ true → full' ≡ false → P goes-on)
-    → (t : Taken) → e ≡ Takes t → P t
+    → (t : Intake) → e ≡ Takes t → P t
 by-steps P e brief wrong over q begins goes-on t u =
     subst (OfTaken P) (sym q ∙ u)
     (pick-cases (OfTaken P)
@@ -60,16 +60,16 @@ module _ (B : ℕ) (now : EventStamp) (issue : ℕ) (s : Reassembler) (h : Heade
     append-is q f = pick-true _ _ _ (eq-eqb (h .seq) (s .«next_seq») q) ∙ pick-false _ _ _ f
 
   -- the plan's bytes lie in the packet, and fit the body
-  pub enter-plan : 4 ≤ length p → (t : Taken) → enter B now issue s h p ≡ Takes t → Planned t (length p) B
+  pub enter-plan : 4 ≤ length p → (t : Intake) → enter B now issue s h p ≡ Takes t → Planned t (length p) B
   unfolding enter append
   enter-plan k =
-      by-steps (λ (t : Taken). Planned t (length p) B) (enter B now issue s h p) _ _ _ refl
+      by-steps (λ (t : Intake). Planned t (length p) B) (enter B now issue s h p) _ _ _ refl
       (λ _ f _ g. record { within = ltb-false _ _ f; fits = ltb-false _ _ g })
       (λ _ _ g. record { within = k; fits = ltb-false _ _ g })
 
   -- the same for an entry that `enter` gives
   pub told-plan : (e : Entry) → e ≡ enter B now issue s h p
-      → (e ≡ enter B now issue s h p) × (4 ≤ length p → s .len ≤ B → (t : Taken) → e ≡ Takes t → Planned t (length p) B)
+      → (e ≡ enter B now issue s h p) × (4 ≤ length p → s .len ≤ B → (t : Intake) → e ≡ Takes t → Planned t (length p) B)
   told-plan e q = (q, λ k _ t u. enter-plan k t (sym q ∙ u))
 
   grown : (n : ℕ) (t : Reassembler) → t .key ≡ s .key → t .len + n ≤ B → Entered B s (appended (h .eom) now issue n t)
@@ -77,14 +77,14 @@ module _ (B : ℕ) (now : EventStamp) (issue : ℕ) (s : Reassembler) (h : Heade
       pick-cases (Entered B s) (λ _. record { len = fits; seq = omega arith; key = k }) (λ _. record { len = fits; seq = omega arith; key = k })
 
   -- the next slot's body fits, its next sequence is one, and it has the slot's key
-  pub enter-ok : (t : Taken) → enter B now issue s h p ≡ Takes t → Entered B s (t .slot)
+  pub enter-ok : (t : Intake) → enter B now issue s h p ≡ Takes t → Entered B s (t .slot)
   unfolding enter append
   enter-ok =
-      by-steps (λ (t : Taken). Entered B s (t .slot)) (enter B now issue s h p) _ _ _ refl
+      by-steps (λ (t : Intake). Entered B s (t .slot)) (enter B now issue s h p) _ _ _ refl
       (λ _ _ _ g. grown _ _ refl (ltb-false _ _ g))
       (λ _ _ g. grown _ _ refl (ltb-false _ _ g))
 
   -- with SOM the packet's bytes go to the body's start, whatever the slot's length was
-  pub enter-start : h .som ≡ true → (t : Taken) → enter B now issue s h p ≡ Takes t → t .at ≡ 0
+  pub enter-start : h .som ≡ true → (t : Intake) → enter B now issue s h p ≡ Takes t → t .at ≡ 0
   unfolding enter append
-  enter-start e = by-steps (λ (t : Taken). t .at ≡ 0) (enter B now issue s h p) _ _ _ refl (λ _ _ _ _. refl) (λ f _ _. absurd (no-both e f))
+  enter-start e = by-steps (λ (t : Intake). t .at ≡ 0) (enter B now issue s h p) _ _ _ refl (λ _ _ _ _. refl) (λ f _ _. absurd (no-both e f))

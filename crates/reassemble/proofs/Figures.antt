@@ -17,7 +17,7 @@ use Rattle.stamp.specs.Stamp.{timeoutOf, expired}
 use Rattle.slot.specs.declared.State.{State}
 use Rattle.slot.specs.declared.State.the-variants.{Collecting, Done, HandleOut}
 use Rattle.slot.specs.declared.Reassembler.{Reassembler}
-use Rattle.reassemble.specs.declared.Taken.{Taken}
+use Rattle.reassemble.specs.declared.Intake.{Intake}
 use Rattle.reassemble.specs.declared.Entry.{Entry}
 use Rattle.reassemble.specs.declared.Entry.the-variants.{Frees, Takes}
 use Rattle.slot.specs.Slot.{withState, slotTimeout}
@@ -39,7 +39,7 @@ abbrev one : List ℕ
 one = 0x01 ∷ 0x08 ∷ 0x09 ∷ 0xC9 ∷ 0x01 ∷ 0x2A ∷ []
 
 -- from 9 to 8 under tag 1, type 1, no IC: one byte, the packet's last, goes to the body's start
-abbrev oneWhole : Taken
+abbrev oneWhole : Intake
 oneWhole = record {
   slot = record {
     state = HandleOut 7;

@@ -21,7 +21,7 @@ use Rattle.slot.specs.declared.State.the-variants.{Collecting, HandleOut}
 use Rattle.slot.specs.declared.Reassembler.{Reassembler}
 use Rattle.reassemble.specs.declared.Gate.{Gate}
 use Rattle.reassemble.specs.declared.Gate.the-variants.{Shut, Pass}
-use Rattle.reassemble.specs.declared.Taken.{Taken}
+use Rattle.reassemble.specs.declared.Intake.{Intake}
 use Rattle.reassemble.specs.declared.Entry.{Entry}
 use Rattle.reassemble.specs.declared.Entry.the-variants.{Frees, Takes}
 use Rattle.slot.specs.Slot.{isEmpty}
@@ -105,6 +105,6 @@ enter B now issue s h p =
     (append B now issue s h p 4)
 
 -- the plan's bytes lie in the packet, and fit the body
-pub record Planned (t : Taken) (size B : ℕ) : Type 0 where
+pub record Planned (t : Intake) (size B : ℕ) : Type 0 where
   pub within : t .from ≤ size
   pub fits : t .at + (size - t .from) ≤ B

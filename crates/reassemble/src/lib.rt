@@ -6,7 +6,7 @@ ghost use Prim.Native.Nat.{_+_, _≤_, _<_, _^_};
 ghost use lib.Dec.{ltb};
 ghost use lib.ListN.{length};
 ghost use Rattle.reassemble.specs.Enter.{isLocal, localPacket, opening, opened, gateReply, begun, appended, append, enter, Planned};
-ghost use Rattle.reassemble.specs.declared.Taken.{Taken};
+ghost use Rattle.reassemble.specs.declared.Intake.{Intake};
 ghost use Rattle.reassemble.specs.declared.Entry.the-variants.{Takes};
 use mctp::Cookie;
 use mctp::Eid;
@@ -28,11 +28,11 @@ pub enum Gate {
 // What a packet makes of a slot: it frees it, or the slot takes the packet's bytes.
 pub enum Entry {
     Frees(Error),
-    Takes(Taken),
+    Takes(Intake),
 }
 
 // The slot's next record, and where in its body the packet's bytes from `from` on go; `whole`: the message ends with this packet.
-pub struct Taken {
+pub struct Intake {
     pub slot: Reassembler,
     pub at: usize,
     pub from: usize,
@@ -197,7 +197,7 @@ fn accept(
         return Entry::Frees(Error::NoSpace); // rule 48
     }
     let slot = grow(s, h.eom, stamp, issue, n);
-    Entry::Takes(Taken {
+    Entry::Takes(Intake {
         slot: slot,
         at: len,
         from: start,
@@ -215,7 +215,7 @@ pub fn receive(
     most: usize,
 ) -> Entry
     ensures { λ r. ⌜ r ≡ enter most stamp issue s h (now (packet .entry)) ⌝ }
-    ensures planned { λ r. ⌜ ((4 ≤ length (now (packet .entry))) → (s .len ≤ most) → (t : Taken) → r ≡ Takes t → Planned t (length (now (packet .entry))) most) ⌝ }
+    ensures planned { λ r. ⌜ ((4 ≤ length (now (packet .entry))) → (s .len ≤ most) → (t : Intake) → r ≡ Takes t → Planned t (length (now (packet .entry))) most) ⌝ }
 {
     if h.som {
         if packet.len() < 5 {

@@ -28,7 +28,7 @@ use Rattle.slot.specs.declared.State.the-variants.{HandleOut}
 use Rattle.slot.specs.declared.Reassembler.{Reassembler}
 use Rattle.reassemble.specs.declared.Entry.{Entry}
 use Rattle.reassemble.specs.declared.Entry.the-variants.{Takes}
-use Rattle.reassemble.specs.declared.Taken.{Taken}
+use Rattle.reassemble.specs.declared.Intake.{Intake}
 use Rattle.reassemble.specs.declared.Gate.{Gate}
 use Rattle.reassemble.specs.declared.Gate.the-variants.{Shut, Pass}
 use Rattle.reassemble.specs.Enter.{enter, append, appended, begun, opened, gateEmpty, gateReply}
@@ -99,7 +99,7 @@ module _ (B : ℕ) (now : EventStamp) (issue : ℕ) (h : Header) (p : List ℕ) 
 
   -- what is taken has the ranges of a slot
   EntryOk : Entry → Type 0
-  EntryOk = OfTaken (λ (t : Taken). SlotOk B (t .slot))
+  EntryOk = OfTaken (λ (t : Intake). SlotOk B (t .slot))
 
   append-ok : (t : Reassembler) (start : ℕ) → SlotOk B t → EntryOk (append B now issue t h p start)
   unfolding append EntryOk
@@ -124,7 +124,7 @@ module _ (B : ℕ) (now : EventStamp) (issue : ℕ) (h : Header) (p : List ℕ) 
   }
 
   -- the next slot has the ranges of a slot
-  pub entered-ok : (s : Reassembler) → h .seq < 4 → SlotOk B s → (t : Taken) → enter B now issue s h p ≡ Takes t → SlotOk B (t .slot)
+  pub entered-ok : (s : Reassembler) → h .seq < 4 → SlotOk B s → (t : Intake) → enter B now issue s h p ≡ Takes t → SlotOk B (t .slot)
   unfolding enter EntryOk
   entered-ok s q ok t e =
       subst EntryOk e

@@ -23,7 +23,7 @@ use mctp::HeaderRead;
 use mctp::Key;
 use reassemble::Entry;
 use reassemble::Gate;
-use reassemble::Taken;
+use reassemble::Intake;
 use slot::Reassembler;
 use slot::ReceiveHandle;
 use state::Sizes;
@@ -188,7 +188,7 @@ fn settle(
     packet: &[u8],
     key: Key,
     i: usize,
-    t: Taken,
+    t: Intake,
 ) -> Received
     requires { ⌜ Kept sizes (now state) × (i < sizes .slots) × (sizes .body * sizes .slots ≤ length (now pool)) × Planned t (length (now packet)) (sizes .body) × SlotOk (sizes .body) (t .slot) ⌝ }
     ensures { λ r. ⌜ Makes sizes (settled (sizes .body) i (stackOf sizes (now (state .entry))) key (now (packet .entry)) (Takes t)) r (now (state .entry)) (now (state .exit)) (now (pool .entry)) (now (pool .exit)) ⌝ }
