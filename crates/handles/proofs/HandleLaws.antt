@@ -78,11 +78,11 @@ changed-ok B s ok state cookie n v = record {
   issue = n;
 }
 
-pub restated-ok : (B : ℕ) (s : Reassembler) → SlotOk B s → (state : State) → issueNo state < 2 ^ 64 → SlotOk B (withState state s)
-restated-ok B s ok state n = changed-ok B s ok state (s .cookie) n (ok .value)
+pub with-state-ok : (B : ℕ) (s : Reassembler) → SlotOk B s → (state : State) → issueNo state < 2 ^ 64 → SlotOk B (withState state s)
+with-state-ok B s ok state n = changed-ok B s ok state (s .cookie) n (ok .value)
 
-pub recookied-ok : (B : ℕ) (s : Reassembler) → SlotOk B s → (cookie : Cookie) → cookieValue cookie < 2 ^ 64 → SlotOk B (withSlotCookie cookie s)
-recookied-ok B s ok cookie v = changed-ok B s ok (s .state) cookie (ok .issue) v
+pub with-cookie-ok : (B : ℕ) (s : Reassembler) → SlotOk B s → (cookie : Cookie) → cookieValue cookie < 2 ^ 64 → SlotOk B (withSlotCookie cookie s)
+with-cookie-ok B s ok cookie v = changed-ok B s ok (s .state) cookie (ok .issue) v
 
 -- where a handle goes out, the slot is stored and then the count
 module _ (z : Sizes) (b : List ℕ) (i : ℕ) where

@@ -20,7 +20,7 @@ use Rattle.flows.specs.Table.{isFlow, newFlow, insertFlow, withTag, freshFlow, 
 use Rattle.slot.specs.declared.Reassembler.{Reassembler}
 use Rattle.slot.specs.Slot.{blankSlot, isReply, keptUnder, fadedSlot, withState, withSlotCookie}
 use Rattle.slot.specs.Search.{slotFor}
-use Rattle.slot.specs.declared.State.the-variants.{Done as Kept}
+use Rattle.slot.specs.declared.State.the-variants.{Done as Waiting}
 use Rattle.reassemble.specs.Enter.{isLocal, opening, gate, gateEmpty, gateReply, enter, append}
 use Rattle.fragment.specs.declared.Fragmenter.{Fragmenter}
 use Rattle.fragment.specs.Step.{Step, newOf, stepOf}
@@ -116,7 +116,7 @@ module _ (w : World) where
   stills B (getDeferredByCookie cookies) s = deferred-still (step B (getDeferredByCookie cookies) w) (byCookieOf cookies (w .stack) .said)
   stills B (fetchMessage h n) s = fetch-still B h n
   stills B (finishedReceive h) s = handled-still (λ s. blankSlot) h
-  stills B (returnHandle h) s = handled-still (withState Kept) h
+  stills B (returnHandle h) s = handled-still (withState Waiting) h
   stills B (setCookie h cookie) s = handled-still (withSlotCookie cookie) h
   stills B (setEid n) s = eid-still B n
   stills B eid s = refl

@@ -4,7 +4,7 @@ use denote.Ref.{now}
 use borrow.Author.Needs.{needs}
 use Rattle.slot.specs.Slot.{withSlotCookie}
 use Rattle.state.proofs.Cookies.{cookie-fits}
-use Rattle.handles.proofs.HandleLaws.{handled-at, recookied-ok}
+use Rattle.handles.proofs.HandleLaws.{handled-at, with-cookie-ok}
 use Rattle.handles.proofs.set_cookie.Statement.{statement}
 use Rattle.handles.proofs.set_cookie.Tie as tie
 
@@ -17,7 +17,7 @@ set-cookie-requires c κs = search needs
 put-under-requires : tie.Need-put-under-requires
 put-under-requires c κs =
     let s = c .before .before .before .before .before in
-    (s .pre, rw (c .set-cookie .ensures) (recookied-ok (s .args .sizes .body) (c .before .before .slot-at .result) (c .before .before .slot-at .ensures .1) (s .args .cookie) (cookie-fits (s .args .cookie) (s .good .1 .1 .1 .0))))
+    (s .pre, rw (c .set-cookie .ensures) (with-cookie-ok (s .args .sizes .body) (c .before .before .slot-at .result) (c .before .before .slot-at .ensures .1) (s .args .cookie) (cookie-fits (s .args .cookie) (s .good .1 .1 .1 .0))))
 
 same-length : tie.Need-same-length
 same-length c = search needs

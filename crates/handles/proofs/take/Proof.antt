@@ -6,7 +6,7 @@ use Rattle.slot.specs.Slot.{withState}
 use Rattle.slot.specs.declared.Reassembler.{Reassembler}
 use Rattle.slot.specs.declared.State.the-variants.{HandleOut}
 use Rattle.slot.specs.Handle.{nextIssue}
-use Rattle.handles.proofs.HandleLaws.{restated-ok, taken, not-taken}
+use Rattle.handles.proofs.HandleLaws.{with-state-ok, taken, not-taken}
 use Rattle.handles.proofs.take.Statement.{statement}
 use Rattle.handles.proofs.take.Tie as tie
 
@@ -26,7 +26,7 @@ put-slot-requires : tie.Need-put-slot-requires
 put-slot-requires c κs =
     let s = c .before .before .before .before .before .before .before .before .before .before in
     let n = c .before .before .before .before .next-issue .result in
-    (s .pre, rw (c .take-handle .ensures) (restated-ok (s .args .sizes .body) (c .before .before .slot-at .result) (c .before .before .slot-at .ensures .1) (HandleOut n) (search needs)))
+    (s .pre, rw (c .take-handle .ensures) (with-state-ok (s .args .sizes .body) (c .before .before .slot-at .result) (c .before .before .slot-at .ensures .1) (HandleOut n) (search needs)))
 
 put-issue-requires : tie.Need-put-issue-requires
 put-issue-requires c κs = search needs
