@@ -90,7 +90,7 @@ fn flow_holds(state: &[u8], at: usize) -> bool
 {
     let end = at + FLOW_WIDTH;
     let w = &state[at..end];
-    let f = flows::read_flow(w);
+    let f = flows::flow_from(state, at);
     if 7 < f.tag.0 {
         return false;
     }
@@ -105,7 +105,7 @@ fn slot_holds(state: &[u8], at: usize, body: usize) -> bool
 {
     let end = at + SLOT_WIDTH;
     let w = &state[at..end];
-    let s = state::read_slot(w);
+    let s = state::slot_from(state, at);
     if !slot_ranges(s, body) {
         return false;
     }

@@ -4,5 +4,6 @@ pub mod Bools
 pub mod Finds
 pub mod Each
 pub mod Part
+pub mod Froms
 pub mod Number
 pub mod Region

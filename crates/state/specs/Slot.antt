@@ -1,11 +1,12 @@
 -- A slot in 40 bytes: its state, then its key in wire order, so that one number of 4 bytes tells what it collects.
 -- `SlotOk` gives the ranges that a slot's fields always have.
 -- Leans on `octets` for numbers in bytes, on `mctp` for keys and types, on `slot` for the record.
-use Prim.Native.Nat.{ℕ, _+_, _*_, _/_, _%_, _^_, _<_, _≤_}
+use Prim.Native.Nat.{ℕ, _+_, _-_, _*_, _/_, _%_, _^_, _<_, _≤_}
 use mathlib.Core.List.{List, [], _∷_, _++_}
-use lib.Dec.{eqb}
+use lib.Dec.{eqb, ltb}
+use lib.ListN.{length}
 use Rattle.octets.specs.Pick.{pick}
-use Rattle.octets.specs.Bytes.{field, pack}
+use Rattle.octets.specs.Bytes.{field, pack, part}
 use Rattle.octets.specs.Region.{Codec}
 use Rattle.mctp.specs.declared.Key.{Key}
 use Rattle.mctp.specs.Terms.{cookieNo, cookieValue, cookieOf}
@@ -13,7 +14,7 @@ use Rattle.mctp.specs.Header.{bit, typeByte, typeOf}
 use Rattle.slot.specs.declared.State.{State}
 use Rattle.slot.specs.declared.State.the-variants.{Empty, Collecting, Done, HandleOut}
 use Rattle.slot.specs.declared.Reassembler.{Reassembler}
-use Rattle.slot.specs.Slot.{stateNo}
+use Rattle.slot.specs.Slot.{stateNo, blankSlot}
 use Rattle.state.specs.declared.Progress.{Progress}
 use Rattle.state.specs.Layout.{slotWidth}
 
@@ -61,6 +62,10 @@ slotOf b = record {
   cookie = cookieOf (field 12 1 b) (field 24 8 b);
   stamp = record { clock = field 16 8 b; counter = field 8 4 b };
 }
+
+-- the slot whose bytes start at byte `at` of b; a blank one where they do not all lie in b
+abbrev pub slotFrom : ℕ → List ℕ → Reassembler
+slotFrom at b = pick (ltb (length b - at) slotWidth) blankSlot (slotOf (part at slotWidth b))
 
 -- the ranges that a slot's fields always have; B is the most bytes that a body holds
 pub record SlotOk (B : ℕ) (s : Reassembler) : Type 0 where

@@ -9,7 +9,7 @@ ghost use Rattle.octets.specs.Bytes.{lay, puts};
 ghost use Rattle.slot.specs.Slot.{stateNo};
 ghost use Rattle.flows.specs.Codec.{FlowOk, flowWord};
 ghost use Rattle.state.specs.Head.{headOf, headBytes, HeadOk, headWith, withOwn, withNow, withCounter, withPlanned, withNextTag, withNextSeq, withIssue};
-ghost use Rattle.state.specs.Slot.{issueNo, stateFrom, ownerTag, slotOf, slotBytes, leadRow, restRow, progressRow, SlotOk, ProgressOk, progress, progressOf, keyWord};
+ghost use Rattle.state.specs.Slot.{issueNo, stateFrom, ownerTag, slotOf, slotFrom, slotBytes, leadRow, restRow, progressRow, SlotOk, ProgressOk, progress, progressOf, keyWord};
 ghost use Rattle.stamp.specs.Stamp.{next};
 ghost use Rattle.state.specs.Stack.{ticked, Kept, Becomes, stackOf, slotAt, flowAt, withSlot, withFlow, withHead};
 use flows::Flow;
@@ -17,6 +17,7 @@ use mctp::Cookie;
 use mctp::Eid;
 use mctp::Key;
 use mctp::TagValue;
+use octets::beyond;
 use octets::get1;
 use octets::get2;
 use octets::get4;
@@ -31,7 +32,7 @@ use stamp::EventStamp;
 
 pub const HEAD_WIDTH: usize = 40;
 
-pub const FLOW_WIDTH: usize = 32;
+pub const FLOW_WIDTH: usize = flows::FLOW_WIDTH;
 
 pub const SLOT_WIDTH: usize = 40;
 
@@ -181,7 +182,19 @@ fn owner_tag(key: Key) -> u8
     mctp::bit_of(key.owner, 8) + key.tag.0
 }
 
-pub fn read_slot(b: &[u8]) -> Reassembler
+// The slot whose bytes start at byte `at`; a blank one where they do not all lie in `b`. It alone calls `read_slot`, as `flow_from` of `flows` does
+// with `read_flow`.
+pub fn slot_from(b: &[u8], at: usize) -> Reassembler
+    ensures { λ r. ⌜ r ≡ slotFrom at (now (b .entry)) ⌝ }
+{
+    if beyond(b.len(), at) < SLOT_WIDTH {
+        return slot::blank();
+    }
+    let end = at + SLOT_WIDTH;
+    read_slot(&b[at..end])
+}
+
+fn read_slot(b: &[u8]) -> Reassembler
     ensures { λ r. ⌜ r ≡ slotOf (now (b .entry)) ⌝ }
 {
     let dest = Eid(get1(b, 1));
@@ -381,9 +394,7 @@ pub fn slot_at(state: &[u8], sizes: Sizes, i: usize) -> Reassembler
     if sizes.slots <= i {
         return slot::blank();
     }
-    let at = SLOTS_AT + SLOT_WIDTH * i;
-    let end = at + SLOT_WIDTH;
-    read_slot(&state[at..end])
+    slot_from(state, SLOTS_AT + SLOT_WIDTH * i)
 }
 
 // Stores slot i; past the last slot nothing is stored.
@@ -460,9 +471,7 @@ pub fn flow_at(state: &[u8], sizes: Sizes, i: usize) -> Flow
     if config::FLOWS <= i {
         return flows::no_flow();
     }
-    let at = FLOWS_AT + FLOW_WIDTH * i;
-    let end = at + FLOW_WIDTH;
-    flows::read_flow(&state[at..end])
+    flows::flow_from(state, FLOWS_AT + FLOW_WIDTH * i)
 }
 
 // Stores the flow at place i; past the last place nothing is stored.

@@ -2,7 +2,9 @@
 use mathlib.Core.Path.{refl}
 use native.Mathlib.Omega.{arith}
 use denote.Ref.{now}
-use Rattle.flows.specs.Codec.{flowCodec, flowWidth}
+use Rattle.octets.proofs.Froms.{from-read}
+use Rattle.flows.specs.Table.{noFlow}
+use Rattle.flows.specs.Codec.{flowOf, flowCodec, flowWidth}
 use Rattle.flows.proofs.CodecLaws.{flow-lawful}
 use Rattle.kept.proofs.TellLaws.{says-no}
 use Rattle.kept.proofs.BlockLaws.{unheld, reheld}
@@ -23,14 +25,14 @@ part-w-start c = search needs
 part-w-end : tie.Need-part-w-end
 part-w-end c = search needs
 
-read-flow-requires : tie.Need-read-flow-requires
-read-flow-requires c κs = search needs
+flow-from-requires : tie.Need-flow-from-requires
+flow-from-requires c κs = search needs
 
 returns : tie.Need-returns
 returns c =
     let r = c .before .before in
     let s = r .before .before .before in
-    says-no (unheld flowCodec (s .args .at) (now (s .args .state)) (r .read-flow .ensures) (λ ok. let t = ok .tag in omega arith))
+    says-no (unheld flowCodec (s .args .at) (now (s .args .state)) (from-read flowOf noFlow (s .args .at) flowWidth (now (s .args .state)) (s .pre) (r .flow-from .ensures)) (λ ok. let t = ok .tag in omega arith))
 
 slice-aggregate-write-flow : tie.Need-slice-aggregate-write-flow
 slice-aggregate-write-flow c = search needs
@@ -52,8 +54,9 @@ returns-2 c =
     let k = r .before .before in
     let at = k .before .args .at in
     let b = now (k .before .args .state) in
-    let ok = flow-ranged at flowWidth b (k .shared-slice-known .given) (r .read-flow .ensures) (search needs) in
-    reheld flowCodec at b (r .read-flow .ensures) flow-lawful ok _ _ refl (w .write-flow .ensures) (c .same-bytes .ensures)
+    let e = from-read flowOf noFlow at flowWidth b (k .before .pre) (r .flow-from .ensures) in
+    let ok = flow-ranged at flowWidth b (k .shared-slice-known .given) e (search needs) in
+    reheld flowCodec at b e flow-lawful ok _ _ refl (w .write-flow .ensures) (c .same-bytes .ensures)
 
 pub flow-holds-spec : {M : Type 1} → statement M
 flow-holds-spec =
@@ -63,7 +66,7 @@ flow-holds-spec =
     sub-w
     part-w-start
     part-w-end
-    read-flow-requires
+    flow-from-requires
     returns
     slice-aggregate-write-flow
     write-flow-requires

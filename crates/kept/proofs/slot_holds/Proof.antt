@@ -2,7 +2,9 @@
 use mathlib.Core.Path.{refl}
 use denote.Ref.{now}
 use Rattle.state.specs.Layout.{slotWidth}
-use Rattle.state.specs.Slot.{slotCodec, SlotOk}
+use Rattle.slot.specs.Slot.{blankSlot}
+use Rattle.octets.proofs.Froms.{from-read}
+use Rattle.state.specs.Slot.{slotOf, slotCodec, SlotOk}
 use Rattle.state.proofs.SlotLaws.{slot-lawful}
 use Rattle.kept.proofs.TellLaws.{says-no, refuted, shown}
 use Rattle.kept.proofs.BlockLaws.{unheld, reheld}
@@ -23,8 +25,8 @@ part-w-start c = search needs
 part-w-end : tie.Need-part-w-end
 part-w-end c = search needs
 
-read-slot-requires : tie.Need-read-slot-requires
-read-slot-requires c κs = search needs
+slot-from-requires : tie.Need-slot-from-requires
+slot-from-requires c κs = search needs
 
 slot-ranges-requires : tie.Need-slot-ranges-requires
 slot-ranges-requires c κs = search needs
@@ -34,16 +36,16 @@ returns c =
     let g = c .before in
     let r = g .before in
     let s = r .before .before .before in
-    says-no (unheld (slotCodec (s .args .body)) (s .args .at) (now (s .args .state)) (r .read-slot .ensures) (λ ok. refuted (g .slot-ranges .ensures) (c .if1 .taken) (slot-tested _ _ ok)))
+    says-no (unheld (slotCodec (s .args .body)) (s .args .at) (now (s .args .state)) (from-read slotOf blankSlot (s .args .at) slotWidth (now (s .args .state)) (s .pre) (r .slot-from .ensures)) (λ ok. refuted (g .slot-ranges .ensures) (c .if1 .taken) (slot-tested _ _ ok)))
 
 -- the slot is in range where the test says so
-ranged : (i : tie.Else1) → SlotOk (i .before .before .before .before .before .args .body) (i .before .before .read-slot .result)
+ranged : (i : tie.Else1) → SlotOk (i .before .before .before .before .before .args .body) (i .before .before .slot-from .result)
 ranged i =
     let g = i .before in
     let r = g .before in
     let k = r .before .before in
     let s = k .before in
-    slot-ranged (s .args .at) slotWidth (now (s .args .state)) (k .shared-slice-known .given) (s .args .body) (r .read-slot .ensures) (shown (g .slot-ranges .ensures) (i .if1 .left))
+    slot-ranged (s .args .at) slotWidth (now (s .args .state)) (k .shared-slice-known .given) (s .args .body) (from-read slotOf blankSlot (s .args .at) slotWidth (now (s .args .state)) (s .pre) (r .slot-from .ensures)) (shown (g .slot-ranges .ensures) (i .if1 .left))
 
 slice-aggregate-write-slot : tie.Need-slice-aggregate-write-slot
 slice-aggregate-write-slot c = search needs
@@ -64,7 +66,7 @@ returns-2 c =
     let r = i .before .before in
     let s = r .before .before .before in
     let B = s .args .body in
-    reheld (slotCodec B) (s .args .at) (now (s .args .state)) (r .read-slot .ensures) (slot-lawful B) (ranged i) _ _ refl (w .write-slot .ensures) (c .same-bytes .ensures)
+    reheld (slotCodec B) (s .args .at) (now (s .args .state)) (from-read slotOf blankSlot (s .args .at) slotWidth (now (s .args .state)) (s .pre) (r .slot-from .ensures)) (slot-lawful B) (ranged i) _ _ refl (w .write-slot .ensures) (c .same-bytes .ensures)
 
 pub slot-holds-spec : {M : Type 1} → statement M
 slot-holds-spec =
@@ -74,7 +76,7 @@ slot-holds-spec =
     sub-w
     part-w-start
     part-w-end
-    read-slot-requires
+    slot-from-requires
     slot-ranges-requires
     returns
     slice-aggregate-write-slot
