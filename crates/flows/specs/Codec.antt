@@ -1,12 +1,11 @@
 -- A flow in 32 bytes: used, peer and tag come first, so that one number of 4 bytes tells which peer and tag a place belongs to.
 -- `FlowOk` gives the ranges that a flow's fields always have.
 -- Leans on `octets` for rows of numbers.
-use Prim.Native.Nat.{ℕ, _+_, _-_, _*_, _^_, _<_}
+use Prim.Native.Nat.{ℕ, _+_, _*_, _^_, _<_}
 use mathlib.Core.List.{List, [], _∷_}
-use lib.Dec.{eqb, ltb}
-use lib.ListN.{length}
+use lib.Dec.{eqb}
 use Rattle.octets.specs.Pick.{pick}
-use Rattle.octets.specs.Bytes.{field, pack, part}
+use Rattle.octets.specs.Bytes.{field, pack}
 use Rattle.octets.specs.Region.{Codec}
 use Rattle.mctp.specs.Terms.{cookieNo, cookieValue, cookieOf}
 use Rattle.mctp.specs.Header.{bit}
@@ -14,7 +13,6 @@ use Rattle.stamp.specs.declared.EventStamp.{EventStamp}
 use Rattle.flows.specs.declared.Expiry.{Expiry}
 use Rattle.flows.specs.declared.Expiry.the-variants.{Never, From}
 use Rattle.flows.specs.declared.Flow.{Flow}
-use Rattle.flows.specs.Table.{noFlow}
 
 abbrev pub flowWidth : ℕ
 flowWidth = 32
@@ -51,10 +49,6 @@ flowOf b = record {
   cookie = cookieOf (field 4 1 b) (field 8 8 b);
   expiry = expiryOf (field 6 1 b) (field 16 8 b) (field 24 4 b);
 }
-
--- the flow whose bytes start at byte `at` of b; no flow where they do not all lie in b
-abbrev pub flowFrom : ℕ → List ℕ → Flow
-flowFrom at b = pick (ltb (length b - at) flowWidth) noFlow (flowOf (part at flowWidth b))
 
 -- the ranges that a flow's fields always have
 pub record FlowOk (f : Flow) : Type 0 where

@@ -6,12 +6,11 @@ ghost use Prim.Native.Nat.{_<_};
 ghost use Rattle.octets.specs.Bytes.{lay, puts};
 ghost use Rattle.flows.specs.Tags.{marked};
 ghost use Rattle.flows.specs.Table.{noFlow, lasts, newFlow, flowTimeout};
-ghost use Rattle.flows.specs.Codec.{expiryNo, expiryStamp, expiryOf, flowOf, flowFrom, flowBytes, flowRow, FlowOk};
+ghost use Rattle.flows.specs.Codec.{expiryNo, expiryStamp, expiryOf, flowOf, flowBytes, flowRow, FlowOk};
 use mctp::Cookie;
 use mctp::Eid;
 use mctp::Error;
 use mctp::TagValue;
-use octets::beyond;
 use octets::get1;
 use octets::get4;
 use octets::get8;
@@ -22,9 +21,6 @@ use stamp::EventStamp;
 use stamp::Timeout;
 
 pub mod tags; // tags.rt: tags as bits of a byte, and the search for a free one
-
-// How many bytes a flow takes.
-pub const FLOW_WIDTH: usize = 32;
 
 pub enum Expiry {
     Never,
@@ -167,20 +163,8 @@ fn expiry_of(n: u8, clock: u64, counter: u32) -> Expiry
     Expiry::Never
 }
 
-// The flow whose bytes start at byte `at`; no flow where they do not all lie in `b`. It alone calls `read_flow`, so the compiler joins the two, and the
-// tests of a length that `read_flow` has are gone.
-pub fn flow_from(b: &[u8], at: usize) -> Flow
-    ensures { λ r. ⌜ r ≡ flowFrom at (now (b .entry)) ⌝ }
-{
-    if beyond(b.len(), at) < FLOW_WIDTH {
-        return no_flow();
-    }
-    let end = at + FLOW_WIDTH;
-    read_flow(&b[at..end])
-}
-
 // The flow that `b` starts with; a byte past its end counts as 0.
-fn read_flow(b: &[u8]) -> Flow
+pub fn read_flow(b: &[u8]) -> Flow
     ensures { λ r. ⌜ r ≡ flowOf (now (b .entry)) ⌝ }
 {
     let used = get1(b, 0);

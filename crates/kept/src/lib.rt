@@ -90,7 +90,7 @@ fn flow_holds(state: &[u8], at: usize) -> bool
 {
     let end = at + FLOW_WIDTH;
     let w = &state[at..end];
-    let f = flows::flow_from(state, at);
+    let f = state::flow_from(state, at);
     if 7 < f.tag.0 {
         return false;
     }

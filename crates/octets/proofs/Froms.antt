@@ -14,8 +14,8 @@ module _ {A : Type 0} (dec : List ℕ → A) (blank : A) (at w : ℕ) (b : List 
   pub from-none : {k : ℕ} → k ≡ length b - at → k < w → x ≡ blank → x ≡ pick (ltb (length b - at) w) blank (dec (part at w b))
   from-none {k} e l q = q ∙ sym (pick-true _ _ _ (lt-ltb (length b - at) w (omega (arith, e, l))))
 
-  pub from-some : {k : ℕ} → k ≡ length b - at → w ≤ k → x ≡ dec (take ((at + w) - at) (drop at b)) → x ≡ pick (ltb (length b - at) w) blank (dec (part at w b))
-  from-some {k} e l q = q ∙ ap dec (lent at w b) ∙ sym (pick-false _ _ _ (le-ltb (length b - at) w (omega (arith, e, l))))
+  pub from-some : {k : ℕ} → k ≡ length b - at → w ≤ k → x ≡ dec (part at w b) → x ≡ pick (ltb (length b - at) w) blank (dec (part at w b))
+  from-some {k} e l q = q ∙ sym (pick-false _ _ _ (le-ltb (length b - at) w (omega (arith, e, l))))
 
   -- where the bytes lie in the buffer, the record is what they say
   pub from-read : at + w ≤ length b → x ≡ pick (ltb (length b - at) w) blank (dec (part at w b)) → x ≡ dec (take ((at + w) - at) (drop at b))

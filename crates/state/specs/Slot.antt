@@ -11,6 +11,9 @@ use Rattle.octets.specs.Region.{Codec}
 use Rattle.mctp.specs.declared.Key.{Key}
 use Rattle.mctp.specs.Terms.{cookieNo, cookieValue, cookieOf}
 use Rattle.mctp.specs.Header.{bit, typeByte, typeOf}
+use Rattle.flows.specs.declared.Flow.{Flow}
+use Rattle.flows.specs.Table.{noFlow}
+use Rattle.flows.specs.Codec.{flowWidth, flowOf}
 use Rattle.slot.specs.declared.State.{State}
 use Rattle.slot.specs.declared.State.the-variants.{Empty, Collecting, Done, HandleOut}
 use Rattle.slot.specs.declared.Reassembler.{Reassembler}
@@ -66,6 +69,10 @@ slotOf b = record {
 -- the slot whose bytes start at byte `at` of b; a blank one where they do not all lie in b
 abbrev pub slotFrom : ℕ → List ℕ → Reassembler
 slotFrom at b = pick (ltb (length b - at) slotWidth) blankSlot (slotOf (part at slotWidth b))
+
+-- the same for a flow
+abbrev pub flowFrom : ℕ → List ℕ → Flow
+flowFrom at b = pick (ltb (length b - at) flowWidth) noFlow (flowOf (part at flowWidth b))
 
 -- the ranges that a slot's fields always have; B is the most bytes that a body holds
 pub record SlotOk (B : ℕ) (s : Reassembler) : Type 0 where

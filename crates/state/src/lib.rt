@@ -3,13 +3,14 @@
 // Leans on `octets` for numbers in bytes and blocks, on `flows` and `slot` for the records. Definitions: specs/Layout.antt, Head.antt, Slot.antt, Stack.antt.
 ghost use mathlib.Core.Path.{_≡_};
 ghost use Prim.Native.Nat.{_+_, _%_, _≤_, _<_, _^_};
-ghost use lib.ListN.{replicate};
+ghost use lib.ListN.{length, replicate};
 ghost use Rattle.config.specs.Config.{interval};
-ghost use Rattle.octets.specs.Bytes.{lay, puts};
+ghost use Rattle.octets.specs.Bytes.{part, lay, puts};
 ghost use Rattle.slot.specs.Slot.{stateNo};
-ghost use Rattle.flows.specs.Codec.{FlowOk, flowWord};
+ghost use Rattle.flows.specs.Codec.{FlowOk, flowWord, flowWidth, flowOf};
+ghost use Rattle.state.specs.Layout.{slotWidth};
 ghost use Rattle.state.specs.Head.{headOf, headBytes, HeadOk, headWith, withOwn, withNow, withCounter, withPlanned, withNextTag, withNextSeq, withIssue};
-ghost use Rattle.state.specs.Slot.{issueNo, stateFrom, ownerTag, slotOf, slotFrom, slotBytes, leadRow, restRow, progressRow, SlotOk, ProgressOk, progress, progressOf, keyWord};
+ghost use Rattle.state.specs.Slot.{issueNo, stateFrom, ownerTag, slotOf, slotFrom, flowFrom, slotBytes, leadRow, restRow, progressRow, SlotOk, ProgressOk, progress, progressOf, keyWord};
 ghost use Rattle.stamp.specs.Stamp.{next};
 ghost use Rattle.state.specs.Stack.{ticked, Kept, Becomes, stackOf, slotAt, flowAt, withSlot, withFlow, withHead};
 use flows::Flow;
@@ -32,7 +33,7 @@ use stamp::EventStamp;
 
 pub const HEAD_WIDTH: usize = 40;
 
-pub const FLOW_WIDTH: usize = flows::FLOW_WIDTH;
+pub const FLOW_WIDTH: usize = 32;
 
 pub const SLOT_WIDTH: usize = 40;
 
@@ -182,16 +183,41 @@ fn owner_tag(key: Key) -> u8
     mctp::bit_of(key.owner, 8) + key.tag.0
 }
 
-// The slot whose bytes start at byte `at`; a blank one where they do not all lie in `b`. It alone calls `read_slot`, as `flow_from` of `flows` does
-// with `read_flow`.
+// The slot, or the flow, whose bytes start at byte `at`. Each alone calls its `read_..`, so the compiler joins the two, and the tests of a length that
+// reading any bytes takes are gone.
+fn slot_in(b: &[u8], at: usize) -> Reassembler
+    requires { ⌜ at + slotWidth ≤ length (now b) ⌝ }
+    ensures { λ r. ⌜ r ≡ slotOf (part at slotWidth (now (b .entry))) ⌝ }
+{
+    let end = at + SLOT_WIDTH;
+    read_slot(&b[at..end])
+}
+
+fn flow_in(b: &[u8], at: usize) -> Flow
+    requires { ⌜ at + flowWidth ≤ length (now b) ⌝ }
+    ensures { λ r. ⌜ r ≡ flowOf (part at flowWidth (now (b .entry))) ⌝ }
+{
+    let end = at + FLOW_WIDTH;
+    flows::read_flow(&b[at..end])
+}
+
+// The same of any bytes: a blank slot, or no flow, where the bytes do not all lie in `b`.
 pub fn slot_from(b: &[u8], at: usize) -> Reassembler
     ensures { λ r. ⌜ r ≡ slotFrom at (now (b .entry)) ⌝ }
 {
     if beyond(b.len(), at) < SLOT_WIDTH {
         return slot::blank();
     }
-    let end = at + SLOT_WIDTH;
-    read_slot(&b[at..end])
+    slot_in(b, at)
+}
+
+pub fn flow_from(b: &[u8], at: usize) -> Flow
+    ensures { λ r. ⌜ r ≡ flowFrom at (now (b .entry)) ⌝ }
+{
+    if beyond(b.len(), at) < FLOW_WIDTH {
+        return flows::no_flow();
+    }
+    flow_in(b, at)
 }
 
 fn read_slot(b: &[u8]) -> Reassembler
@@ -394,7 +420,7 @@ pub fn slot_at(state: &[u8], sizes: Sizes, i: usize) -> Reassembler
     if sizes.slots <= i {
         return slot::blank();
     }
-    slot_from(state, SLOTS_AT + SLOT_WIDTH * i)
+    slot_in(state, SLOTS_AT + SLOT_WIDTH * i)
 }
 
 // Stores slot i; past the last slot nothing is stored.
@@ -471,7 +497,7 @@ pub fn flow_at(state: &[u8], sizes: Sizes, i: usize) -> Flow
     if config::FLOWS <= i {
         return flows::no_flow();
     }
-    flows::flow_from(state, FLOWS_AT + FLOW_WIDTH * i)
+    flow_in(state, FLOWS_AT + FLOW_WIDTH * i)
 }
 
 // Stores the flow at place i; past the last place nothing is stored.

@@ -1,8 +1,8 @@
 -- Slot i is what its block says, or the blank one past the last; its fields have their ranges (`slot-read`, `slot-none`).
 use denote.Ref.{now}
 use native.Mathlib.Omega.{arith}
-use Rattle.octets.proofs.Froms.{from-read}
-use Rattle.slot.specs.Slot.{blankSlot}
+use mathlib.Core.Path.{sym, ap, _∙_}
+use Rattle.octets.proofs.Part.{lent}
 use Rattle.state.specs.Layout.{slotWidth}
 use Rattle.state.specs.Slot.{slotOf}
 use Rattle.state.proofs.StackLaws.{slot-read, slot-none}
@@ -18,20 +18,20 @@ returns c =
     let s = c .before .before .before .before in
     slot-none _ _ (s .pre) (s .args .i) _ (omega arith) (c .blank .ensures)
 
-mul-slot-from : tie.Need-mul-slot-from
-mul-slot-from c = search needs
+mul-slot-in : tie.Need-mul-slot-in
+mul-slot-in c = search needs
 
-add-slot-from : tie.Need-add-slot-from
-add-slot-from c = search needs
+add-slot-in : tie.Need-add-slot-in
+add-slot-in c = search needs
 
-slot-from-requires : tie.Need-slot-from-requires
-slot-from-requires c κs = search needs
+slot-in-requires : tie.Need-slot-in-requires
+slot-in-requires c κs = search needs
 
 returns-2 : tie.Need-returns-2
 returns-2 c =
     let s = c .before .before .before .before in
     slot-read _ _ (s .pre) (s .args .i) _ (omega arith)
-    (from-read slotOf blankSlot _ slotWidth (now (s .args .state)) (omega arith) (c .slot-from .ensures))
+    (c .slot-in .ensures ∙ sym (ap slotOf (lent _ slotWidth (now (s .args .state)))))
 
 pub slot-at-spec : {M : Type 1} → statement M
-slot-at-spec = tie.close (tie.spec blank-requires returns mul-slot-from add-slot-from slot-from-requires returns-2)
+slot-at-spec = tie.close (tie.spec blank-requires returns mul-slot-in add-slot-in slot-in-requires returns-2)

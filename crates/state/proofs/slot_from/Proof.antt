@@ -20,36 +20,13 @@ returns c =
     let s = c .before .before .before .before in
     from-none slotOf blankSlot (s .args .at) slotWidth (now (s .args .b)) (c .before .before .beyond .ensures) (c .before .if1 .taken) (c .blank .ensures)
 
-add-end : tie.Need-add-end
-add-end c = search needs
-
-sub-read-slot : tie.Need-sub-read-slot
-sub-read-slot c = search needs
-
-part-read-slot-start : tie.Need-part-read-slot-start
-part-read-slot-start c = search needs
-
-part-read-slot-end : tie.Need-part-read-slot-end
-part-read-slot-end c = search needs
-
-read-slot-requires : tie.Need-read-slot-requires
-read-slot-requires c κs = search needs
+slot-in-requires : tie.Need-slot-in-requires
+slot-in-requires c κs = let e = c .before .beyond .ensures in let l = c .if1 .left in omega (arith, e, l)
 
 returns-2 : tie.Need-returns-2
 returns-2 c =
-    let s = c .before .before .before .before .before in
-    from-some slotOf blankSlot (s .args .at) slotWidth (now (s .args .b)) (c .before .before .before .beyond .ensures) (omega arith) (c .read-slot .ensures)
+    let s = c .before .before .before .before in
+    from-some slotOf blankSlot (s .args .at) slotWidth (now (s .args .b)) (c .before .before .beyond .ensures) (c .before .if1 .left) (c .slot-in .ensures)
 
 pub slot-from-spec : {M : Type 1} → statement M
-slot-from-spec =
-    tie.close
-    (tie.spec
-    beyond-requires
-    blank-requires
-    returns
-    add-end
-    sub-read-slot
-    part-read-slot-start
-    part-read-slot-end
-    read-slot-requires
-    returns-2)
+slot-from-spec = tie.close (tie.spec beyond-requires blank-requires returns slot-in-requires returns-2)
