@@ -2,6 +2,8 @@
 // Definitions: specs/Config.antt.
 // Leans on nothing.
 
+#![tactic(auto)]
+
 // Slots: messages that are collected or kept at a time.
 pub const NUM_RECEIVE: usize = 4;
 

@@ -1,6 +1,9 @@
 // Copies a slice over the front of another, as far as it fits, in moves of 1, 4, 8 and 16 bytes.
 // A move reads all its bytes before it writes the first. A `&mut` is not marked noalias, so only in this order do two moves of 8 bytes become one of 16.
 // Leans on `octets` for numbers. Each is read or written in a window of its own width, so that none of its bounds tests is left in the compiled code.
+
+#![tactic(auto)]
+
 ghost use Rattle.std.specs.Prelude.{◌≡◌, ◌++◌, ◌+◌, ◌≤◌, ◌<◌, length, drop};
 ghost use Rattle.octets.specs.Bytes.{le, field, part, over, lay};
 

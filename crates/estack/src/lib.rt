@@ -1,6 +1,9 @@
 // The stack: every public call of docs/RULES.md, over a state kept in lent bytes, after the Rust's `Stack` in src/lib.rs.
 // Here are `new`, the EIDs, `cancel_flow` and `free_tags`; the other calls are passed on from their crates. Definitions: specs/Basics.antt.
 // Leans on `state` for the layout, on `slot_walks` and `flow_walks` for walks, on `sending`, `receiving`, `updating` and `handles` for their calls.
+
+#![tactic(auto)]
+
 ghost use Rattle.std.specs.Prelude.{◌≡◌, length};
 ghost use Rattle.state.specs.Head.{with_own};
 ghost use Rattle.state.specs.Stack.{Kept, Becomes, stack_of, with_head};

@@ -2,6 +2,9 @@
 // What it must write stands in the file `stdout`, written from that section. Each figure has a fresh stack; the pool is lent to every receive and fetch.
 // Each text says what is asked, and begins with what parts it from the one before: a new line, or `; ` or `, ` within a line.
 // Leans on `figures_parts` for a fresh stack (own EID 8, clock 0) and for each call, told in words after its text.
+
+#![tactic(auto)]
+
 ghost use Rattle.std.specs.Prelude.{◌≤◌, length};
 
 use estack::SendMtu;

@@ -1,6 +1,9 @@
 // The parts of the program `figures`: a fresh stack, and each call of a figure, run on the stack's own calls and told in words, after a text that says what is asked.
 // A message is cut in place (`cut`), and a body is lent by the message that borrows it from the pool (`messages::lend_body`). Definitions: specs/Figure.antt.
 // Leans on `estack` for the calls, on `fragment` and `messages` for packets and bodies, on `board` for the sizes.
+
+#![tactic(auto)]
+
 ghost use Rattle.std.specs.Prelude.{◌≡◌, ◌≤◌, length};
 ghost use Rattle.octets.specs.Bytes.{over};
 ghost use Rattle.fragment.specs.Step.{step_of};
@@ -222,7 +225,7 @@ pub fn fresh_tags(state: &mut [u8], text: &[u8], peer: u8, count: u8)
 // ---- receiving
 
 // What is shown of a message that is handed out.
-#[derive(Drop)]
+#[derive(Clone, Copy)]
 pub enum Show {
     Taken,
     Slot,

@@ -1,6 +1,9 @@
 // Walks over the flows of a state kept in bytes: which place, the used tags, a flow set or removed, a check of time.
 // Each touches only what it needs. Definitions: specs/FlowWalks.antt, and those of `flows` and `state`.
 // Leans on `state` for the bytes and for events, on `flows` for one flow's part, on `stamp` for the check of time.
+
+#![tactic(auto)]
+
 ghost use Rattle.std.specs.Prelude.{◌≡◌, map, ◌∷◌, [], ◌≤◌, ◌<◌};
 ghost use Rattle.config.specs.Config.{flow_count};
 ghost use Rattle.octets.specs.Find.{find};

@@ -1,6 +1,9 @@
 // Flows: who owes an answer under which tag, after the Rust's `Flow`, `alloc_tag`, `new_flow`, `set_flow`. A flow is a record by value with a
 // codec to a block of 32 bytes; the table itself lies in the state's bytes.
 // Leans on `mctp` for EIDs, tags and cookies, on `stamp` for time, on `octets` for bytes. Definitions: specs/Table.antt, Tags.antt, Codec.antt.
+
+#![tactic(auto)]
+
 ghost use Rattle.std.specs.Prelude.{◌≡◌, ◌<◌};
 ghost use Rattle.octets.specs.Bytes.{lay, puts};
 ghost use Rattle.flows.specs.Tags.{marked};
@@ -13,13 +16,13 @@ use stamp::{EventStamp, Timeout};
 
 pub mod tags; // tags.rt: tags as bits of a byte, and the search for a free one
 
-#[derive(Drop)]
+#[derive(Clone, Copy)]
 pub enum Expiry {
     Never,
     From(EventStamp),
 }
 
-#[derive(Drop)]
+#[derive(Clone, Copy)]
 pub struct Flow {
     pub used: bool,
     pub peer: Eid,
@@ -29,20 +32,20 @@ pub struct Flow {
 }
 
 // The tag that a send asks for: a fresh one, or this one.
-#[derive(Drop)]
+#[derive(Clone, Copy)]
 pub enum Wish {
     Fresh,
     Fixed(TagValue),
 }
 
-#[derive(Drop)]
+#[derive(Clone, Copy)]
 pub enum TagFound {
     Free(TagValue),
     NoneFree,
 }
 
 // What a send gets: its tag, or a refusal.
-#[derive(Drop)]
+#[derive(Clone, Copy)]
 pub enum Granted {
     Tag(TagValue),
     Refused(Error),

@@ -1,6 +1,9 @@
 // The fragmenter: one message cut into packets, one step a packet, after the Rust's src/fragment.rs.
 // Definitions: specs/Step.antt; what DSP0236 asks of the packets stands apart from the step, in specs/Cutting.antt.
 // Leans on `mctp` for the header, on `copying` for the copy and on `octets` for numbers.
+
+#![tactic(auto)]
+
 ghost use Rattle.std.specs.Prelude.{◌≡◌, ◌++◌, ◌∷◌, ◌+◌, ◌≤◌, ◌<◌, ◌^◌, length};
 ghost use Rattle.octets.specs.Bytes.{over, part};
 ghost use Rattle.mctp.specs.Header.{header_bytes, lead};
@@ -9,7 +12,7 @@ ghost use Rattle.fragment.specs.Step.{new_of, advanced_by, header_for, Writable,
 use mctp::{Cookie, Eid, Error, Header, Key, MsgIC, MsgType, Tag};
 use octets::{beyond, smaller};
 
-#[derive(Drop)]
+#[derive(Clone, Copy)]
 pub struct Fragmenter {
     pub src: Eid,
     pub dest: Eid,
@@ -26,21 +29,21 @@ pub struct Fragmenter {
 }
 
 // What a step answers: a packet of so many bytes is in the buffer, all is sent, or a refusal.
-#[derive(Drop)]
+#[derive(Clone, Copy)]
 pub enum SendOutput {
     Packet(usize),
     Complete { tag: Tag, cookie: Cookie },
     Error { err: Error, cookie: Cookie },
 }
 
-#[derive(Drop)]
+#[derive(Clone, Copy)]
 pub struct Fragmented {
     pub next: Fragmenter,
     pub output: SendOutput,
 }
 
 // A packet cut off the payload, before it is written.
-#[derive(Drop)]
+#[derive(Clone, Copy)]
 pub struct Cut {
     // the fragmenter after it
     pub next: Fragmenter,
@@ -55,13 +58,13 @@ pub struct Cut {
 }
 
 // What a step is going to do: write nothing and give this answer, or write this packet.
-#[derive(Drop)]
+#[derive(Clone, Copy)]
 pub enum Plan {
     Still(SendOutput),
     Emits(Cut),
 }
 
-#[derive(Drop)]
+#[derive(Clone, Copy)]
 pub enum Started {
     Sends(Fragmenter),
     Refused(Error),

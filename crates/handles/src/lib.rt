@@ -1,6 +1,9 @@
 // Handling: fetch, finish, return and set cookie under a handle, and the deferred lookups that give one out; after the Rust's `Stack` in src/lib.rs.
 // Definitions: specs/Handles.antt.
 // Leans on `slot_walks` for the search of the earliest message, on `slot` for the count of handles, on `state` for the bytes.
+
+#![tactic(auto)]
+
 ghost use Rattle.std.specs.Prelude.{◌≡◌, length};
 ghost use Rattle.state.specs.Slot.{SlotOk};
 ghost use Rattle.state.specs.Stack.{Kept, Becomes, stack_of};
@@ -11,20 +14,20 @@ use slot::{Reassembler, ReceiveHandle};
 use state::Sizes;
 
 // The answer of a call that has nothing to tell but a refusal.
-#[derive(Drop)]
+#[derive(Clone, Copy)]
 pub enum Done {
     Well,
     Refused(Error),
 }
 
-#[derive(Drop)]
+#[derive(Clone, Copy)]
 pub enum Deferred {
     Found(ReceiveHandle),
     Nothing,
 }
 
 // A message: its body is `len` bytes of the pool from byte `at`.
-#[derive(Drop)]
+#[derive(Clone, Copy)]
 pub struct Message {
     pub key: Key,
     pub typ: MsgType,
@@ -34,7 +37,7 @@ pub struct Message {
     pub len: usize,
 }
 
-#[derive(Drop)]
+#[derive(Clone, Copy)]
 pub enum Fetched {
     Message(Message),
     Refused(Error),

@@ -1,6 +1,9 @@
 // Tells exactly whether bytes are a kept state (docs/RULES.md 88 to 90). A board that keeps its state over a warm start asks this before any other call.
 // A block is read as a record, the record's ranges are tested, and it is written out again and compared: first the head, then all flow places and all slots.
 // Leans on `state` for the layout and the codecs, on `flows` for a flow's codec. Definitions: specs/Tells.antt, specs/Ranges.antt.
+
+#![tactic(auto)]
+
 ghost use Rattle.std.specs.Prelude.{◌≡◌, true, ◌+◌, ◌*◌, ◌≤◌, length};
 ghost use Rattle.config.specs.Config.{flow_count};
 ghost use Rattle.octets.specs.Region.{Holds, Regular};

@@ -1,42 +1,45 @@
 // What stands on the wire: endpoint IDs, tags, types, cookies, the refusals, and the packet header of DSP0236.
 // The types cannot be mixed up; they follow the crate `mctp`, and the header follows `libmctp`. Definitions: specs/Terms.antt, Header.antt.
 // Leans on `octets` for numbers in bytes.
+
+#![tactic(auto)]
+
 ghost use Rattle.std.specs.Prelude.{◌≡◌, ◌≤◌, ◌<◌};
 ghost use Rattle.octets.specs.Bytes.{le};
 ghost use Rattle.mctp.specs.Terms.{normal_eid, error_no, tag_of, is_owner, tag_under, same_bool, cookie_no, cookie_value, cookie_of};
 ghost use Rattle.mctp.specs.Header.{header_of, header_bytes, bit, type_byte, type_of, lead, flags_of};
 
-#[derive(Drop)]
+#[derive(Clone, Copy)]
 pub struct Eid(pub u8);
 
-#[derive(Drop)]
+#[derive(Clone, Copy)]
 pub struct TagValue(pub u8);
 
-#[derive(Drop)]
+#[derive(Clone, Copy)]
 pub struct MsgType(pub u8);
 
-#[derive(Drop)]
+#[derive(Clone, Copy)]
 pub struct MsgIC(pub bool);
 
-#[derive(Drop)]
+#[derive(Clone, Copy)]
 pub struct AppCookie(pub u64);
 
 // A tag, and whose it is: an owned tag has TO=1 on the wire.
-#[derive(Drop)]
+#[derive(Clone, Copy)]
 pub enum Tag {
     Owned(TagValue),
     Unowned(TagValue),
 }
 
 // A cookie that may be absent.
-#[derive(Drop)]
+#[derive(Clone, Copy)]
 pub enum Cookie {
     Absent,
     Given(AppCookie),
 }
 
 // The refusals (docs/RULES.md 13); `number` gives each its number.
-#[derive(Drop)]
+#[derive(Clone, Copy)]
 pub enum Error {
     InvalidInput,
     NoSpace,
@@ -47,7 +50,7 @@ pub enum Error {
 }
 
 // A packet's key, which tells the message that the packet belongs to.
-#[derive(Drop)]
+#[derive(Clone, Copy)]
 pub struct Key {
     pub source: Eid,
     pub dest: Eid,
@@ -55,7 +58,7 @@ pub struct Key {
     pub tag: TagValue,
 }
 
-#[derive(Drop)]
+#[derive(Clone, Copy)]
 pub struct Header {
     pub key: Key,
     pub som: bool,
@@ -63,19 +66,19 @@ pub struct Header {
     pub seq: u8,
 }
 
-#[derive(Drop)]
+#[derive(Clone, Copy)]
 pub enum HeaderRead {
     Good(Header),
     Bad,
 }
 
-#[derive(Drop)]
+#[derive(Clone, Copy)]
 pub enum EidRead {
     Normal(Eid),
     Refused(Error),
 }
 
-#[derive(Drop)]
+#[derive(Clone, Copy)]
 pub struct TypeIC {
     pub typ: MsgType,
     pub ic: MsgIC,

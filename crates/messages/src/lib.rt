@@ -1,6 +1,9 @@
 // A handed-out message: a record that borrows its body from the pool, after the Rust's MctpMessage.
 // `lend_message` makes it; `lend_body` and `copy_body` are for callers that need the body alone. Definitions: specs/Message.antt.
 // Leans on `handles` for the facts of a message, by value, and on `copying` for the copy.
+
+#![tactic(auto)]
+
 ghost use Rattle.std.specs.Prelude.{◌≡◌, length};
 ghost use Rattle.octets.specs.Bytes.{over, part};
 ghost use Rattle.messages.specs.Message.{body_of, message_of, front_of};
@@ -8,7 +11,7 @@ ghost use Rattle.messages.specs.Message.{body_of, message_of, front_of};
 use handles::Message;
 use mctp::{Cookie, Eid, MsgIC, MsgType, Tag};
 
-#[derive(Drop)]
+#[derive(Clone, Copy)]
 pub struct MctpMessage<'a> {
     pub source: Eid,
     pub dest: Eid,

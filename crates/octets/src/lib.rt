@@ -1,6 +1,9 @@
 // The ground floor of all crates: it reads and writes little-endian numbers at any place of a buffer. A byte past the end reads as 0, and is not written.
 // specs/ and proofs/ hold the definitions and laws of parts, numbers, regions, choices and first places that the other crates cite.
 // Leans on the toolchain's library alone.
+
+#![tactic(auto)]
+
 ghost use Rattle.std.specs.Prelude.{◌≡◌, ◌-◌, min};
 ghost use Rattle.octets.specs.Bytes.{le, field, lay};
 

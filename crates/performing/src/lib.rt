@@ -1,6 +1,9 @@
 // Any call by its number and its arguments, with an exact contract: state and pool afterwards are those of `steps`, of which the theorems speak.
 // So the prover checks that each exported call does what `step` says of it. Definitions: specs/Perform.antt, specs/Cuts.antt.
 // Leans on `board` for the calls, on `rows` for numbers read, on `mctp` for a yes or no as a number; its definitions lean on `promises`.
+
+#![tactic(auto)]
+
 ghost use Rattle.std.specs.Prelude.{ℕ, ◌≡◌, List, length};
 ghost use Rattle.state.specs.Stack.{Kept};
 ghost use Rattle.board.specs.Board.{board};

@@ -1,6 +1,9 @@
 // The reassembler: what one packet makes of one slot, after the Rust's src/reassemble.rs. The slot's body lies in the pool that the
 // caller lends, and a plan says which bytes of the packet go where. Definitions: specs/Enter.antt.
 // Leans on `slot` for the record, on `mctp` for header and key, on `stamp` for time.
+
+#![tactic(auto)]
+
 ghost use Rattle.std.specs.Prelude.{◌≡◌, ◌+◌, ◌≤◌, ◌<◌, ◌^◌, ltb, length};
 ghost use Rattle.reassemble.specs.Enter.{is_local, local_packet, opening, opened, gate_reply, begun, appended, append, enter, Planned};
 ghost use Rattle.reassemble.specs.declared.Intake.{Intake};
@@ -11,21 +14,21 @@ use slot::{Reassembler, State};
 use stamp::EventStamp;
 
 // Whether a packet comes to a slot: a refusal, or the slot that it enters.
-#[derive(Drop)]
+#[derive(Clone, Copy)]
 pub enum Gate {
     Shut(Error),
     Pass(Reassembler),
 }
 
 // What a packet makes of a slot: it frees it, or the slot takes the packet's bytes.
-#[derive(Drop)]
+#[derive(Clone, Copy)]
 pub enum Entry {
     Frees(Error),
     Takes(Intake),
 }
 
 // The slot's next record, and where in its body the packet's bytes from `from` on go; `whole`: the message ends with this packet.
-#[derive(Drop)]
+#[derive(Clone, Copy)]
 pub struct Intake {
     pub slot: Reassembler,
     pub at: usize,

@@ -1,6 +1,9 @@
 // Receive, docs/RULES.md 38 to 51, over the whole stack. Find the slot, gate, enter; then one store of one slot and, where the slot takes the packet, one write to the pool.
 // Definitions: specs/Receive.antt, specs/Conclude.antt.
 // Leans on `state` for the layout, on `slot_walks` and `flow_walks` for searches, on `reassemble` for one slot's part.
+
+#![tactic(auto)]
+
 ghost use Rattle.std.specs.Prelude.{◌≡◌, ◌*◌, ◌≤◌, ◌<◌, length, true};
 ghost use Rattle.mctp.specs.declared.HeaderRead.TheVariants.{Good, Bad};
 ghost use Rattle.reassemble.specs.declared.Gate.TheVariants.{Pass};
@@ -21,7 +24,7 @@ use state::Sizes;
 
 mod middle; // middle.rt: the short way of a middle packet
 
-#[derive(Drop)]
+#[derive(Clone, Copy)]
 pub enum Received {
     More,
     Message(ReceiveHandle),

@@ -1,6 +1,9 @@
 // Records as rows of 64-bit numbers: a send, a fragmenter, a message, a handle; and what a call answers in numbers (answers.rt).
 // Yes is written 1 and no 0; any number but 0 is read as yes. Definitions: specs/Words.antt, specs/Answers.antt.
 // Leans on `mctp`, `fragment`, `sending`, `slot` and `handles` for the records.
+
+#![tactic(auto)]
+
 mod answers;
 
 ghost use Rattle.std.specs.Prelude.{◌≡◌};

@@ -2,6 +2,9 @@
 // that order.
 // Definitions: specs/Sends.antt.
 // Leans on `flow_walks` for the flows in the state's bytes, on `fragment` for the fragmenter that comes out.
+
+#![tactic(auto)]
+
 ghost use Rattle.std.specs.Prelude.{◌≡◌};
 ghost use Rattle.state.specs.Stack.{Kept, Becomes, stack_of};
 ghost use Rattle.sending.specs.Sends.{bad_tag, mtu_of, send_under, owned_tag, tag_for, start_send_of};
@@ -12,7 +15,7 @@ use mctp::{Cookie, Eid, Error, MsgIC, MsgType, Tag, TagValue};
 use state::Sizes;
 
 // The tag that a message carries: a fresh one of our own, this one of our own, or this one of the other side's.
-#[derive(Drop)]
+#[derive(Clone, Copy)]
 pub enum SendTag {
     Fresh,
     Owned(TagValue),
@@ -20,13 +23,13 @@ pub enum SendTag {
 }
 
 // How long a packet of this message may be: as long as the stack's MTU says, or at most this long too.
-#[derive(Drop)]
+#[derive(Clone, Copy)]
 pub enum SendMtu {
     Own,
     AtMost(usize),
 }
 
-#[derive(Drop)]
+#[derive(Clone, Copy)]
 pub struct Send {
     pub dest: Eid,
     pub typ: MsgType,
@@ -38,7 +41,7 @@ pub struct Send {
 }
 
 // The tag that a message goes out under, or why there is none.
-#[derive(Drop)]
+#[derive(Clone, Copy)]
 pub enum UnderTag {
     Under(Tag),
     Refused(Error),

@@ -1,6 +1,9 @@
 // A slot as a record by value, after the Rust's `Reassembler` in src/reassemble.rs: its states, what it matches, what a handle and time do to it.
 // The handle that goes out with a message is here too. Definitions: specs/Slot.antt; which slot of a list: specs/Search.antt; the handle: specs/Handle.antt.
 // Leans on `mctp` for the key, on `stamp` for time.
+
+#![tactic(auto)]
+
 ghost use Rattle.std.specs.Prelude.{◌≡◌, false};
 ghost use Rattle.slot.specs.Handle.{next_issue};
 ghost use Rattle.slot.specs.Slot.{blank_slot, state_no, is_empty, is_done, handle_is, handle_taken, is_reply, kept_under, slot_timeout, with_state, with_slot_cookie};
@@ -9,7 +12,7 @@ use mctp::{Cookie, Eid, Key, MsgIC, MsgType, TagValue};
 use stamp::{EventStamp, Timeout};
 
 // A slot's index, and the number under which its handle went out.
-#[derive(Drop)]
+#[derive(Clone, Copy)]
 pub struct ReceiveHandle {
     pub index: usize,
     pub issue: u64,
@@ -26,7 +29,7 @@ pub fn next_issue(issue: u64) -> u64
 }
 
 // Empty, collecting, or done: with no handle out, or with one of that issue number.
-#[derive(Drop)]
+#[derive(Clone, Copy)]
 pub enum State {
     Empty,
     Collecting,
@@ -34,7 +37,7 @@ pub enum State {
     HandleOut(u64),
 }
 
-#[derive(Drop)]
+#[derive(Clone, Copy)]
 pub struct Reassembler {
     pub state: State,
     pub key: Key,

@@ -1,6 +1,9 @@
 // Walks over the slots of a state kept in bytes: which slot collects, which is empty, the earliest message, a check of time, a cancel's sweep.
 // Each touches only what it needs. Definitions: specs/SlotWalks.antt, and those of `slot` and `state`.
 // Leans on `state` for the bytes, on `slot` for one slot's part, on `stamp` for the check of time.
+
+#![tactic(auto)]
+
 ghost use Rattle.std.specs.Prelude.{◌≡◌, map, ◌∷◌, [], ◌≤◌, ◌<◌, get_or};
 ghost use Rattle.octets.specs.Find.{find};
 ghost use Rattle.slot.specs.Slot.{blank_slot, is_empty, collects, kept_under, listed, slot_timeout, faded_slot};
@@ -114,7 +117,7 @@ fn better(state: &[u8], sizes: Sizes, i: usize, best: usize) -> usize
 }
 
 // What a search for a done message asks of a slot: its sender and tag, or that its cookie is one of a list.
-#[derive(Drop)]
+#[derive(Clone, Copy)]
 enum Choice {
     From(Eid, bool, TagValue),
     Listed,

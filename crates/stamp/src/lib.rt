@@ -1,19 +1,22 @@
 // A clock and a counter that order events, after the Rust's `EventStamp`.
 // Age, expiry and what is left of a timeout depend on the clock alone. Definitions: specs/Stamp.antt, specs/Checks.antt.
 // Leans on `octets` for `pick` alone.
+
+#![tactic(auto)]
+
 ghost use Rattle.std.specs.Prelude.{◌≡◌, ◌∷◌, [], ◌≤◌, min};
 ghost use Rattle.stamp.specs.Checks.{check_of};
 ghost use Rattle.stamp.specs.Stamp.{next, clocked, earlier, timeout_of, is_expired, sooner_of};
 
 // Stamps are ordered by clock and then by counter.
-#[derive(Drop)]
+#[derive(Clone, Copy)]
 pub struct EventStamp {
     pub clock: u64,
     pub counter: u32,
 }
 
 // What is left of a timeout: no time runs, the time is over, or so many milliseconds are left.
-#[derive(Drop)]
+#[derive(Clone, Copy)]
 pub enum Timeout {
     Untimed,
     Expired,
@@ -107,7 +110,7 @@ impl EventStamp {
 }
 
 // What a check of time found so far: the least remaining time, and whether anything expired.
-#[derive(Drop)]
+#[derive(Clone, Copy)]
 pub struct Check {
     pub least: u32,
     pub expired: bool,

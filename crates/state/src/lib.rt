@@ -1,6 +1,9 @@
 // The stack's state, kept in bytes that the caller lends: where each part lies, its codec, and its accessors. No crate above looks at what single bytes mean.
 // A head of 40 bytes comes first, then 64 flow places of 32 bytes, then the slots of 40. The slots come last so that their number moves no offset.
 // Leans on `octets` for numbers in bytes and blocks, on `flows` and `slot` for the records. Definitions: specs/Layout.antt, Head.antt, Slot.antt, Stack.antt.
+
+#![tactic(auto)]
+
 ghost use Rattle.std.specs.Prelude.{◌≡◌, ◌+◌, ◌%◌, ◌≤◌, ◌<◌, ◌^◌, length, replicate};
 ghost use Rattle.config.specs.Config.{interval};
 ghost use Rattle.octets.specs.Bytes.{part, lay, puts};
@@ -29,7 +32,7 @@ pub const FLOWS_AT: usize = HEAD_WIDTH;
 pub const SLOTS_AT: usize = FLOWS_AT + FLOW_WIDTH * config::FLOWS;
 
 // How many slots a stack has, and how many bytes a body may hold.
-#[derive(Drop)]
+#[derive(Clone, Copy)]
 pub struct Sizes {
     pub slots: usize,
     pub body: usize,
@@ -44,7 +47,7 @@ impl Sizes {
 }
 
 // What a stack has only one of.
-#[derive(Drop)]
+#[derive(Clone, Copy)]
 pub struct Head {
     pub own_eid: Eid,
     pub mtu: usize,
@@ -134,7 +137,7 @@ pub fn write_head(b: &mut [u8], h: Head)
 // ---- a slot in 40 bytes
 
 // The part of a slot that a middle packet of a message looks at.
-#[derive(Drop)]
+#[derive(Clone, Copy)]
 pub struct Progress {
     pub seq: u8,
     pub len: usize,

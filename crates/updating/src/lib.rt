@@ -1,6 +1,9 @@
 // Updating: the clock is taken, and where the planned check is reached, slots and flows expire; after the Rust's `Stack` in src/lib.rs.
 // Definitions: specs/Update.antt.
 // Leans on `slot_walks` and `flow_walks` for what expires, on `state` for the clock and the planned check, on `stamp` for what a check finds.
+
+#![tactic(auto)]
+
 ghost use Rattle.std.specs.Prelude.{◌≡◌, ◌+◌, ◌≤◌};
 ghost use Rattle.config.specs.Config.{interval};
 ghost use Rattle.state.specs.Head.{with_now, with_planned};
@@ -12,7 +15,7 @@ use stamp::{Check, EventStamp};
 use state::{Head, Sizes};
 
 // How many milliseconds may pass until the next update, and whether something expired.
-#[derive(Drop)]
+#[derive(Clone, Copy)]
 pub enum Updated {
     Next { millis: u64, expired: bool },
     Refused(Error),

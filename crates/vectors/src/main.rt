@@ -1,6 +1,9 @@
 // Replays a stored list of calls on the exported calls, and compares each answer with the one that stands beside it: the original's, or where docs/RULES.md
 // adds a rule, that rule's. It writes how many calls there were, and the first that differs. The list is the file `stdin`; oracle/README.md says how it is made.
 // Leans on `vectors_calls` for a call by its number, on `octets` for the records, on `kept` for two buffers compared.
+
+#![tactic(auto)]
+
 ghost use Rattle.std.specs.Prelude.{◌≤◌, length};
 ghost use Rattle.state.specs.Stack.{Kept};
 ghost use Rattle.board.specs.Board.{board};
@@ -80,7 +83,7 @@ fn same_words(a: &[u64; 16], b: &[u64; 16]) -> bool {
 }
 
 // How a turn of the list ends: no record is left, or the answer is the one that stands in the list, or it is another.
-#[derive(Drop)]
+#[derive(Clone, Copy)]
 enum Outcome {
     End,
     Same,

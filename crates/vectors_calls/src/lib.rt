@@ -1,6 +1,9 @@
 // A call by its number, as a stored list of calls has it: what is asked and what is answered, as numbers and bytes. It is a part of the program `vectors`.
 // Every call on a stack goes through `performing::perform`, whose contract is the model that the theorems speak of; oracle/README.md has the list's form.
 // Leans on `performing` for the calls, on `copying` for bytes.
+
+#![tactic(auto)]
+
 ghost use Rattle.std.specs.Prelude.{◌≡◌, true, ◌≤◌};
 ghost use Rattle.state.specs.Stack.{Kept};
 ghost use Rattle.board.specs.Board.{board};
@@ -9,7 +12,7 @@ use rows::narrow;
 
 // Half a record: what is asked, or in the same form what is answered. It has the number of the call or of the answer, and how many numbers and bytes come with
 // it; those lie beside it.
-#[derive(Drop)]
+#[derive(Clone, Copy)]
 pub struct Half {
     pub there: bool,
     pub first: u8,
@@ -129,7 +132,7 @@ fn call(
 
 const POOL: u64 = 4200;
 
-#[derive(Drop)]
+#[derive(Clone, Copy)]
 struct Span {
     from: usize,
     end: usize,

@@ -1,0 +1,11 @@
+-- `get4` joins its two halves: two fields side by side are one (`get_pair`); past the end there is nothing to read.
+use borrow.Author.Rules.{rules}
+use Rattle.octets.proofs.Number.{get_pair, get_past, top}
+use Rattle.octets.proofs.get4.Goals as goal
+
+pub returns-then-b-at : goal.returns-then-b-at
+returns-then-b-at c = search (rules, get_past)
+
+pub returns : goal.returns
+unfolding top
+returns c = search (rules, get_pair)
