@@ -1,5 +1,4 @@
 -- A refusal's number is not 0, so an answer of 0 is never a refusal.
-use Prim.Native.Nat.{ℕ}
 use native.Mathlib.Omega.{arith}
 use mathlib.Core.Path.{◌≡◌}
 use Rattle.mctp.specs.declared.Error.{Error}

@@ -1,11 +1,9 @@
 -- Two keys are the same exactly when `same_key` says so.
-use Prim.Native.Nat.{ℕ}
-use mathlib.Core.Path.{◌≡◌, refl, sym, ◌∙◌}
+use mathlib.Core.Path.{◌≡◌, refl, sym}
 use mathlib.Core.Bool.{Bool, true, false}
-use lib.Dec.{eqb}
 use borrow.Author.Tests.{eqb-true, eq-eqb}
 use Rattle.octets.proofs.Bools.{false_true}
-use Rattle.octets.specs.Pick.{pick, pick_cases}
+use Rattle.octets.specs.Pick.{pick}
 use Rattle.mctp.specs.declared.Key.{Key}
 use Rattle.mctp.specs.Terms.{same_key, same_bool, same_eid, same_tag}
 

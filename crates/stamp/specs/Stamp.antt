@@ -1,7 +1,7 @@
 -- docs/RULES.md 20 to 24: a stamp is a clock and a 32-bit counter, and stamps are ordered by clock and then by counter.
 -- At age 6,000 a stamp has 0 left; at age 6,001 it is expired, and so is a stamp later than now.
 -- Leans on `pick` alone.
-use Rattle.std.specs.Prelude.{ℕ, ◌+◌, ◌-◌, min, Bool, true, false, ltb, eqb}
+use Rattle.std.specs.Prelude.{ℕ, ◌+◌, ◌-◌, min, Bool, true, false, ltb}
 use Rattle.octets.specs.Pick.{pick}
 use Rattle.stamp.specs.declared.EventStamp.{EventStamp}
 use Rattle.stamp.specs.declared.Timeout.{Timeout}
