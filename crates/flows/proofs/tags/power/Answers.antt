@@ -4,18 +4,10 @@ use native.Mathlib.Nat.{one-mul}
 use native.Mathlib.Omega.{arith}
 use mathlib.Core.Path.{◌∙◌}
 use lib.Pow.{shl_exact, pow_pos}
-use borrow.Author.Rules.{rules}
-use Rattle.flows.proofs.tags.power.Statement.{statement}
-use Rattle.flows.proofs.tags.power.Tie as tie
+use Rattle.flows.proofs.tags.power.Goals as goal
 
-shl-result : tie.Need-overflow-shl-result
-shl-result c = search rules
-
-returns : tie.Need-returns
+pub returns : goal.returns
 returns c =
     let k = c.args.t % 8 in
     let e = shl_exact {a = 1} 1 k 8 (omega arith) (omega arith) ∙ one-mul (2 ^ k) in
     (e, rw e (pow_pos k))
-
-pub power-spec : {M : Type 1} → statement M
-power-spec = tie.close (tie.spec shl-result returns)
