@@ -1,0 +1,7 @@
+-- `write_progress` stores each field of its row in turn: that is what `puts` says.
+use Rattle.octets.specs.Bytes.{puts}
+use Rattle.state.proofs.write_progress.Goals as goal
+
+pub returns : goal.returns
+unfolding puts
+returns c = cc
