@@ -19,14 +19,7 @@ use Rattle.state.proofs.StackLaws.{slots_length, slot_ok}
 use Rattle.state.proofs.Words.{KeyOk, word-collects}
 use Rattle.slot_walks.specs.SlotWalks.{has_word}
 use borrow.Author.Rules.{rules}
-use Rattle.slot_walks.proofs.find_collecting.Statement.{statement}
-use Rattle.slot_walks.proofs.find_collecting.Tie as tie
-
-word-of-requires : tie.Need-word-of-requires
-word-of-requires c κs = search rules
-
-find-word-requires : tie.Need-find-word-requires
-find-word-requires c κs = search rules
+use Rattle.slot_walks.proofs.find_collecting.Goals as goal
 
 other_tag : (B : ℕ) (s : Reassembler) (k : Key) → SlotOk B s → 7 < k.tag.0 → collects k s ≡ true → ⊥
 other_tag B s k ok h e = let t = ok.tag in let q = ap (λ (x : Key). x.tag.0) (collects_key k s e) in omega arith
@@ -41,20 +34,15 @@ no-such-tag z b k kept h =
     let l = (stack_of z b).slots in
     (sym (find_none (collects k) l blank_slot (λ i m. fails _ (λ e. other_tag z.body (get_or l i blank_slot) k (slot_ok z b kept i) h e)) ∙ slots_length z b), omega arith)
 
-returns : tie.Need-returns
+pub returns-then-key-gt7 : goal.returns-then-key-gt7
+returns-then-key-gt7 c =
+    no-such-tag c.args.sizes c.args.state.now c.args.key c.requires c.if-key-gt7.true
+
+pub returns : goal.returns
 returns c =
-    let s = c.before.before.before in
-    no-such-tag s.args.sizes s.args.state.now s.args.key s.requires c.if1.true
-
-returns-2 : tie.Need-returns-2
-returns-2 c =
-    let s = c.before.before.before.before.before in
-    let z = s.args.sizes in
-    let b = s.args.state.now in
-    let k = s.args.key in
+    let z = c.args.sizes in
+    let b = c.args.state.now in
+    let k = c.args.key in
     let ok : KeyOk k = record { dest = search rules; source = search rules; tag = search rules } in
-    let e = c.find-word.ensures.0 ∙ ap (λ (w : ℕ). find (has_word w) (stack_of z b).slots) c.before.word_of.ensures in
-    (e ∙ same-find z b k s.requires ok, c.find-word.ensures.1)
-
-pub find-collecting-spec : {M : Type 1} → statement M
-find-collecting-spec = tie.close (tie.spec returns word-of-requires find-word-requires returns-2)
+    let e = c.find_word.ensures.0 ∙ ap (λ (w : ℕ). find (has_word w) (stack_of z b).slots) c.word_of.ensures in
+    (e ∙ same-find z b k c.requires ok, c.find_word.ensures.1)
