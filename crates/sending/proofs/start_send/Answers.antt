@@ -1,0 +1,28 @@
+-- `start_send` refuses a bad type or tag before anything is stored, and then goes on with the tag that it got or the refusal (`carries`, `uncarried`).
+use mathlib.Core.Path.{refl, sym, ◌∙◌}
+use borrow.Author.Tests.{lt-ltb, le-ltb}
+use Rattle.octets.specs.Pick.{pick}
+use Rattle.state.proofs.StackLaws.{stays}
+use Rattle.sending.specs.Sends.{start_send_of}
+use Rattle.sending.proofs.SendLaws.{carries, uncarried}
+use Rattle.sending.proofs.start_send.Goals as goal
+
+pub returns-then-send-gt127 : goal.returns-then-send-gt127
+unfolding start_send_of pick
+returns-then-send-gt127 c =
+    rw (lt-ltb 127 c.args.send.typ.0 c.if-send-gt127.true) (refl, stays c.args.sizes c.args.state.now c.requires)
+
+pub returns-then-bad : goal.returns-then-bad
+unfolding start_send_of pick
+returns-then-bad c =
+    rw (le-ltb 127 c.args.send.typ.0 c.if-send-gt127.false, sym c.is_bad_tag-bad.ensures ∙ c.if-bad.true) (refl, stays c.args.sizes c.args.state.now c.requires)
+
+pub returns-in-Under : goal.returns-in-Under
+returns-in-Under c =
+    let good = sym c.is_bad_tag-bad.ensures ∙ c.if-bad.false in
+    carries c.args.sizes c.args.state.now c.args.send c.if-send-gt127.false good _ _ _ _ (sym c.tag_for-carried.ensures.0 ∙ c.in-Under.is) c.tag_for-carried.ensures.1 c.send_under.ensures
+
+pub returns-in-Refused : goal.returns-in-Refused
+returns-in-Refused c =
+    let good = sym c.is_bad_tag-bad.ensures ∙ c.if-bad.false in
+    uncarried c.args.sizes c.args.state.now c.args.send c.if-send-gt127.false good _ (sym c.tag_for-carried.ensures.0 ∙ c.in-Refused.is) c.tag_for-carried.ensures.1
