@@ -23,8 +23,7 @@ use rows::{
 use state::Sizes;
 
 // Makes a new stack in the front of a buffer of at least 2,248 bytes; what lies past it stays.
-#[unsafe(no_mangle)]
-pub extern "C" fn hyphaloom_new(state: &mut [u8], own: u8, mtu: usize, clock: u64) -> u8
+pub fn hyphaloom_new(state: &mut [u8], own: u8, mtu: usize, clock: u64) -> u8
     ensures said { result ≡ answer_no (done_as (new_says board (length state.old) mtu)) }
     ensures stack { NewMakes (new_says board (length state.old) mtu) board (record { 0 = own }) mtu clock state.old state.new }
 {
@@ -32,16 +31,14 @@ pub extern "C" fn hyphaloom_new(state: &mut [u8], own: u8, mtu: usize, clock: u6
 }
 
 // Whether the bytes are a state, such as `hyphaloom_new` makes and the other calls keep. It has no premise: any bytes may be looked at.
-#[unsafe(no_mangle)]
-pub extern "C" fn hyphaloom_is_kept(state: &[u8]) -> bool
+pub fn hyphaloom_is_kept(state: &[u8]) -> bool
     ensures sound { result ≡ true → Kept board state.now }
     ensures complete { Kept board state.now → result ≡ true }
 {
     kept::is_kept(state, Sizes::BOARD)
 }
 
-#[unsafe(no_mangle)]
-pub extern "C" fn hyphaloom_set_eid(state: &mut [u8], eid: u8) -> u8
+pub fn hyphaloom_set_eid(state: &mut [u8], eid: u8) -> u8
     requires { Kept board state.old }
     ensures said { result ≡ answer_no (done_as (set_eid_of eid (stack_of board state.old)).said) }
     ensures stack { Becomes board state.old state.new (set_eid_of eid (stack_of board state.old)).stack }
@@ -49,16 +46,14 @@ pub extern "C" fn hyphaloom_set_eid(state: &mut [u8], eid: u8) -> u8
     done_no(estack::set_eid(state, Sizes::BOARD, eid))
 }
 
-#[unsafe(no_mangle)]
-pub extern "C" fn hyphaloom_eid(state: &[u8]) -> u8
+pub fn hyphaloom_eid(state: &[u8]) -> u8
     requires { Kept board state.now }
     ensures { result ≡ (stack_of board state.now).head.own_eid.0 }
 {
     estack::eid(state, Sizes::BOARD).0
 }
 
-#[unsafe(no_mangle)]
-pub extern "C" fn hyphaloom_is_local_dest(state: &[u8], packet: &[u8]) -> bool
+pub fn hyphaloom_is_local_dest(state: &[u8], packet: &[u8]) -> bool
     requires { Kept board state.now }
     ensures { result ≡ local_of packet.now (stack_of board state.now) }
 {
@@ -66,8 +61,7 @@ pub extern "C" fn hyphaloom_is_local_dest(state: &[u8], packet: &[u8]) -> bool
 }
 
 // Starts a send, and leaves the fragmenter that steps through its packets.
-#[unsafe(no_mangle)]
-pub extern "C" fn hyphaloom_start_send(
+pub fn hyphaloom_start_send(
     state: &mut [u8],
     send: &[u64; 10],
     fragmenter: &mut [u64; 13],
@@ -86,8 +80,7 @@ pub extern "C" fn hyphaloom_start_send(
 }
 
 // One step: it leaves a packet of `len` bytes at the front of the buffer; `len` 0 says that all is sent.
-#[unsafe(no_mangle)]
-pub extern "C" fn hyphaloom_fragment(
+pub fn hyphaloom_fragment(
     fragmenter: &mut [u64; 13],
     payload: &[u8],
     out: &mut [u8],
@@ -108,8 +101,7 @@ pub extern "C" fn hyphaloom_fragment(
 }
 
 // Takes the clock, and tells how many milliseconds may pass until the next update, and whether something expired.
-#[unsafe(no_mangle)]
-pub extern "C" fn hyphaloom_update(state: &mut [u8], clock: u64, next: &mut [u64; 2]) -> u8
+pub fn hyphaloom_update(state: &mut [u8], clock: u64, next: &mut [u64; 2]) -> u8
     requires { Kept board state.old }
     ensures said { result ≡ answer_no (updated_as (update_of clock (stack_of board state.old)).said) }
     ensures stack { Becomes board state.old state.new (update_of clock (stack_of board state.old)).stack }
@@ -120,8 +112,7 @@ pub extern "C" fn hyphaloom_update(state: &mut [u8], clock: u64, next: &mut [u64
 }
 
 // Receives a packet, and leaves the handle of the message that it ends, or issue 0 where more is to come.
-#[unsafe(no_mangle)]
-pub extern "C" fn hyphaloom_receive(
+pub fn hyphaloom_receive(
     state: &mut [u8],
     pool: &mut [u8],
     packet: &[u8],
@@ -138,8 +129,7 @@ pub extern "C" fn hyphaloom_receive(
 }
 
 // The earliest message kept from that source under that tag: its handle, or issue 0 where there is none.
-#[unsafe(no_mangle)]
-pub extern "C" fn hyphaloom_get_deferred(
+pub fn hyphaloom_get_deferred(
     state: &mut [u8],
     source: u8,
     owner: u8,
@@ -156,8 +146,7 @@ pub extern "C" fn hyphaloom_get_deferred(
 }
 
 // The earliest message kept whose cookie is one of the list.
-#[unsafe(no_mangle)]
-pub extern "C" fn hyphaloom_get_deferred_bycookie(
+pub fn hyphaloom_get_deferred_bycookie(
     state: &mut [u8],
     cookies: &[u64],
     handle: &mut [u64; 2],
@@ -180,8 +169,7 @@ fn handle_of(index: usize, issue: u64) -> ReceiveHandle
 }
 
 // The message under a handle: its body is `len` bytes of the pool from byte `at`.
-#[unsafe(no_mangle)]
-pub extern "C" fn hyphaloom_fetch_message(
+pub fn hyphaloom_fetch_message(
     state: &[u8],
     pool: &[u8],
     index: usize,
@@ -197,8 +185,7 @@ pub extern "C" fn hyphaloom_fetch_message(
     put_message(message, fetched)
 }
 
-#[unsafe(no_mangle)]
-pub extern "C" fn hyphaloom_finished_receive(state: &mut [u8], index: usize, issue: u64) -> u8
+pub fn hyphaloom_finished_receive(state: &mut [u8], index: usize, issue: u64) -> u8
     requires { Kept board state.old }
     ensures said { result ≡ answer_no (done_as (finish_of (record { index = index; issue = issue }) (stack_of board state.old)).said) }
     ensures stack { Becomes board state.old state.new (finish_of (record { index = index; issue = issue }) (stack_of board state.old)).stack }
@@ -207,8 +194,7 @@ pub extern "C" fn hyphaloom_finished_receive(state: &mut [u8], index: usize, iss
     done_no(estack::finished_receive(state, Sizes::BOARD, handle))
 }
 
-#[unsafe(no_mangle)]
-pub extern "C" fn hyphaloom_return_handle(state: &mut [u8], index: usize, issue: u64) -> u8
+pub fn hyphaloom_return_handle(state: &mut [u8], index: usize, issue: u64) -> u8
     requires { Kept board state.old }
     ensures said { result ≡ answer_no (done_as (return_of (record { index = index; issue = issue }) (stack_of board state.old)).said) }
     ensures stack { Becomes board state.old state.new (return_of (record { index = index; issue = issue }) (stack_of board state.old)).stack }
@@ -217,8 +203,7 @@ pub extern "C" fn hyphaloom_return_handle(state: &mut [u8], index: usize, issue:
     done_no(estack::return_handle(state, Sizes::BOARD, handle))
 }
 
-#[unsafe(no_mangle)]
-pub extern "C" fn hyphaloom_set_cookie(
+pub fn hyphaloom_set_cookie(
     state: &mut [u8],
     index: usize,
     issue: u64,
@@ -234,8 +219,7 @@ pub extern "C" fn hyphaloom_set_cookie(
     done_no(estack::set_cookie(state, Sizes::BOARD, handle, value))
 }
 
-#[unsafe(no_mangle)]
-pub extern "C" fn hyphaloom_cancel_flow(state: &mut [u8], source: u8, tag: u8) -> u8
+pub fn hyphaloom_cancel_flow(state: &mut [u8], source: u8, tag: u8) -> u8
     requires { Kept board state.old }
     ensures said { result ≡ answer_no (done_as (cancel_of (record { 0 = source }) (record { 0 = tag }) (stack_of board state.old)).said) }
     ensures stack { Becomes board state.old state.new (cancel_of (record { 0 = source }) (record { 0 = tag }) (stack_of board state.old)).stack }
@@ -244,8 +228,7 @@ pub extern "C" fn hyphaloom_cancel_flow(state: &mut [u8], source: u8, tag: u8) -
 }
 
 // How many tags are free for a peer.
-#[unsafe(no_mangle)]
-pub extern "C" fn hyphaloom_free_tags(state: &[u8], peer: u8) -> u8
+pub fn hyphaloom_free_tags(state: &[u8], peer: u8) -> u8
     requires { Kept board state.now }
     ensures { result ≡ free_tags_of (record { 0 = peer }) (stack_of board state.now) }
 {

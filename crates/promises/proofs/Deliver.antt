@@ -1,7 +1,7 @@
 -- From a fragment that has come to its slot to the last: what waits goes on waiting through permitted calls, and each later fragment finds it.
 use Prim.Native.Nat.{ℕ, ◌+◌, ◌%◌, ◌≤◌, ◌<◌}
 use native.Mathlib.Omega.{arith}
-use mathlib.Core.Path.{◌≡◌, refl, ap, ◌∙◌}
+use mathlib.Core.Path.{◌≡◌, refl, ap, ◌∙◌, subst}
 use mathlib.Core.Bool.{Bool, true, false}
 use mathlib.Core.List.{List, [], ◌∷◌, ◌++◌, append-nil, append_assoc}
 use lib.ListN.{length, length-append}
@@ -112,7 +112,8 @@ module _ (B : ℕ) (K : Key) (typ : MsgType) (ic : MsgIC) (cookie : Cookie) (t�
       let t = collects_more B K typ ic cookie t₀ j bytes (headed K som false number) p w (o false turn.0) refl in
       let u = wait_steps ((number + 1) % 4) (bytes ++ body_in p) (omega arith) (next_gap gaps) (next_ok gaps ok) (step B (receive p) w) t.1 in (
         ap received_as t.0,
-        rw append_assoc at (delivers_from ps q mtu false ((number + 1) % 4) (bytes ++ body_in p) (later_gaps gaps) (steps B (next_gap gaps) (step B (receive p) w)) turn.1
+        subst (λ (b : List ℕ). Delivers B (record { key = K; typ = typ; ic = ic; body = b; cookie = cookie }) (q ∷ ps) (later_gaps gaps) (steps B (next_gap gaps) (step B (receive p) w))) (append_assoc bytes (body_in p) (joined (q ∷ ps)))
+        (delivers_from ps q mtu false ((number + 1) % 4) (bytes ++ body_in p) (later_gaps gaps) (steps B (next_gap gaps) (step B (receive p) w)) turn.1
             (λ eom is. later_poised mtu ((number + 1) % 4) eom (bytes ++ body_in p) q (steps B (next_gap gaps) (step B (receive p) w)) u is (omega arith))
             (omega arith) (later_ok gaps ok)),
       )

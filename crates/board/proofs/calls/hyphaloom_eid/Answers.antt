@@ -1,0 +1,4 @@
+use Rattle.board.proofs.calls.hyphaloom_eid.Goals as goal
+
+pub returns : goal.returns
+returns c = rw c.eid.ensures
