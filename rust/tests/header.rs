@@ -17,7 +17,7 @@ fn header() -> String {
 }
 
 fn calls() -> String {
-    read("crates/board/src/calls.rt")
+    read("crates/board_c/src/lib.rt")
 }
 
 fn words() -> String {
@@ -206,10 +206,10 @@ fn defined_length(name: &str) -> usize {
             let specs = read("crates/rows/specs/Words.antt");
             return between(&specs, "-- A send: ", ": ", ".").split(", ").count();
         }
-        "fragmenter" => ("crates/fragment/specs/Answers.antt", "\nwordsOf f ="),
-        "message" => ("crates/handles/specs/Handles.antt", "\nmessageWords m ="),
-        "handle" => ("crates/slot/specs/Handle.antt", "\nhandleWords h ="),
-        _ => ("crates/updating/specs/Update.antt", "\nupdatedAs (Next millis expired) ="),
+        "fragmenter" => ("crates/fragment/specs/Answers.antt", "\nwords_of f ="),
+        "message" => ("crates/handles/specs/Handles.antt", "\nmessage_words m ="),
+        "handle" => ("crates/slot/specs/Handle.antt", "\nhandle_words h ="),
+        _ => ("crates/updating/specs/Update.antt", "\nupdated_as (Next millis expired) ="),
     };
     between(&read(path), definition, "=", "[]").matches('∷').count()
 }
@@ -283,7 +283,7 @@ fn wanted_constants() -> BTreeMap<String, u64> {
     let (slots, body) = (number(config, "NUM_RECEIVE: usize = "), number(config, "MAX_PAYLOAD: usize = "));
     let mut wanted = BTreeMap::from(
         [
-            ("STATE_BYTES", number("crates/board/src/calls.rt", "a buffer of at least ")),
+            ("STATE_BYTES", number("crates/board_c/src/lib.rt", "a buffer of at least ")),
             ("SLOTS", slots),
             ("BODY_BYTES", body),
             ("POOL_BYTES", slots * body),
@@ -337,7 +337,7 @@ fn declaration_differences(declarations: &str) -> Vec<String> {
 #[test]
 fn seventeen_calls_are_exported() {
     assert_eq!(exported(&calls()).len(), 17);
-    assert_eq!(calls().matches("#[no_mangle]").count(), 17);
+    assert_eq!(calls().matches("#[unsafe(no_mangle)]").count(), 17);
 }
 
 #[test]
