@@ -12,7 +12,7 @@ link_but() { # FROM TO BUT
     done
 }
 
-keep_module() { # FOLDER KEPT: in FOLDER a toolchain like the one installed, whose clang copies the module that it compiles at -O3 to KEPT
+keep_module() { # FOLDER KEPT: in FOLDER a toolchain like the one installed, whose clang copies to KEPT the module of an archive (-O3) or of a program that is tried
     link_but "$kit" "$1" "bin toolchain"
     link_but "$kit/bin" "$1/bin" "rt rtlib.py"
     cp "$kit/bin/rt" "$kit/bin/rtlib.py" "$1/bin/"
@@ -20,7 +20,7 @@ keep_module() { # FOLDER KEPT: in FOLDER a toolchain like the one installed, who
     link_but "$kit/toolchain/bin" "$1/toolchain/bin" clang
     cat >"$1/toolchain/bin/clang" <<END
 #!/bin/sh
-case " \$* " in *" -O3 "*) for a in "\$@"; do case \$a in *.bc) cp "\$a" "$2" ;; esac; done ;; esac
+case " \$* " in *" -O3 "* | *" -fsanitize=address "*) for a in "\$@"; do case \$a in *.bc) cp "\$a" "$2" ;; esac; done ;; esac
 exec "$clang" "\$@"
 END
     chmod +x "$1/toolchain/bin/clang"

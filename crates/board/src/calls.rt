@@ -61,11 +61,7 @@ pub fn hyphaloom_is_local_dest(state: &[u8], packet: &[u8]) -> bool
 }
 
 // Starts a send, and leaves the fragmenter that steps through its packets.
-pub fn hyphaloom_start_send(
-    state: &mut [u8],
-    send: &[u64; 10],
-    fragmenter: &mut [u64; 13],
-) -> u8
+pub fn hyphaloom_start_send(state: &mut [u8], send: &[u64; 10], fragmenter: &mut [u64; 13]) -> u8
     requires { Kept board state.old }
     ensures said { result ≡ answer_no (started_as (start_of send.now (stack_of board state.old)).said) }
     ensures stack { Becomes board state.old state.new (start_of send.now (stack_of board state.old)).stack }
@@ -146,11 +142,7 @@ pub fn hyphaloom_get_deferred(
 }
 
 // The earliest message kept whose cookie is one of the list.
-pub fn hyphaloom_get_deferred_bycookie(
-    state: &mut [u8],
-    cookies: &[u64],
-    handle: &mut [u64; 2],
-)
+pub fn hyphaloom_get_deferred_bycookie(state: &mut [u8], cookies: &[u64], handle: &mut [u64; 2])
     requires { Kept board state.old }
     ensures stack { Becomes board state.old state.new (by_cookie_of cookies.now (stack_of board state.old)).stack }
     ensures handle { handle.new ≡ row_after 2 (deferred_as (by_cookie_of cookies.now (stack_of board state.old)).said) handle.old }

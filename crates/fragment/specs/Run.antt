@@ -1,13 +1,12 @@
 -- A run of steps: the payload is lent at every step, and the packet buffers may have any sizes.
 -- What it writes, the fragmenter after it, and DSP0236's rule for a sender, that every packet but the last is of full size.
 -- Leans on specs/Step.antt.
-use Rattle.std.specs.Prelude.{ℕ, ◌+◌, ◌-◌, ◌/◌, ◌≤◌, ◌≡◌, Bool, List, [], ◌∷◌, ◌++◌, leb, length}
+use Rattle.std.specs.Prelude.{ℕ, ◌+◌, ◌-◌, ◌/◌, ◌≤◌, ◌≡◌, List, [], ◌∷◌, ◌++◌, leb, length}
 use Rattle.octets.specs.Pick.{pick}
-use Rattle.mctp.specs.declared.Error.{Error}
 use Rattle.fragment.specs.declared.Fragmenter.{Fragmenter}
 use Rattle.fragment.specs.declared.SendOutput.{SendOutput}
 use Rattle.fragment.specs.declared.SendOutput.TheVariants.{Packet, Complete, Error as Failed}
-use Rattle.fragment.specs.Step.{Step, step_of}
+use Rattle.fragment.specs.Step.{step_of}
 
 -- a step that answers with a packet wrote its bytes; any other wrote none
 abbrev pub wrote : SendOutput → List ℕ → List (List ℕ)

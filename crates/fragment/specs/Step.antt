@@ -1,7 +1,7 @@
 -- docs/RULES.md 29 to 36: one step, in its order, and the bytes that it writes.
 -- A later step with room for 4 bytes emits a header alone; `emitted` covers that too, since it asks nothing about the room.
 -- Leans on `mctp` for the header's bytes.
-use Rattle.std.specs.Prelude.{ℕ, ◌+◌, ◌-◌, ◌*◌, ◌%◌, ◌≤◌, ◌<◌, min, Bool, true, false, List, [], ◌∷◌, ◌++◌, ltb, leb, eqb, length}
+use Rattle.std.specs.Prelude.{ℕ, ◌+◌, ◌-◌, ◌%◌, ◌≤◌, ◌<◌, min, Bool, true, false, List, [], ◌++◌, ltb, eqb, length}
 use Rattle.config.specs.Config.{min_mtu, max_mtu}
 use Rattle.octets.specs.Pick.{pick}
 use Rattle.octets.specs.Bytes.{part}

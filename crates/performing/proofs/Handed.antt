@@ -9,17 +9,16 @@ use Rattle.mctp.specs.declared.MsgType.{MsgType}
 use Rattle.mctp.specs.declared.MsgIC.{MsgIC}
 use Rattle.mctp.specs.Answer.{Answer, gives, answer_no, answer_values, row_after}
 use Rattle.mctp.proofs.Answers.{error_some}
-use Rattle.state.specs.Stack.{Stack, stack_of, Kept}
+use Rattle.state.specs.Stack.{stack_of, Kept}
 use Rattle.state.proofs.StackLaws.{slot_ok}
 use Rattle.slot.specs.declared.ReceiveHandle.{ReceiveHandle}
 use Rattle.receiving.specs.declared.Received.{Received}
 use Rattle.receiving.specs.declared.Received.TheVariants.{More, Message as Whole, Refused}
 use Rattle.receiving.specs.Conclude.{received_as}
 use Rattle.handles.specs.declared.Fetched.{Fetched}
-use Rattle.handles.specs.declared.Fetched.TheVariants.{Message as Fetch}
-use Rattle.handles.specs.Handles.{fetched_as, fetch_of}
+use Rattle.handles.specs.Handles.{fetched_as}
 use Rattle.promises.specs.Calls.{World, receive, fetch_message, step, steps, receipt}
-use Rattle.promises.specs.Delivery.{Message, Hands, Delivers, read_from, cookie_for, Lawful}
+use Rattle.promises.specs.Delivery.{Message, Hands, Delivers, cookie_for, Lawful}
 use Rattle.promises.proofs.Fetch.{as_told}
 use Rattle.promises.proofs.HandOut.{hands_out}
 use Rattle.promises.proofs.Issues.{told_some}

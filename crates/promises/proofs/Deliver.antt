@@ -113,7 +113,7 @@ module _ (B : ℕ) (K : Key) (typ : MsgType) (ic : MsgIC) (cookie : Cookie) (t�
       let u = wait_steps ((number + 1) % 4) (bytes ++ body_in p) (omega arith) (next_gap gaps) (next_ok gaps ok) (step B (receive p) w) t.1 in (
         ap received_as t.0,
         subst (λ (b : List ℕ). Delivers B (record { key = K; typ = typ; ic = ic; body = b; cookie = cookie }) (q ∷ ps) (later_gaps gaps) (steps B (next_gap gaps) (step B (receive p) w))) (append_assoc bytes (body_in p) (joined (q ∷ ps)))
-        (delivers_from ps q mtu false ((number + 1) % 4) (bytes ++ body_in p) (later_gaps gaps) (steps B (next_gap gaps) (step B (receive p) w)) turn.1
+            (delivers_from ps q mtu false ((number + 1) % 4) (bytes ++ body_in p) (later_gaps gaps) (steps B (next_gap gaps) (step B (receive p) w)) turn.1
             (λ eom is. later_poised mtu ((number + 1) % 4) eom (bytes ++ body_in p) q (steps B (next_gap gaps) (step B (receive p) w)) u is (omega arith))
             (omega arith) (later_ok gaps ok)),
       )

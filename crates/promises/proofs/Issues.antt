@@ -2,8 +2,8 @@
 -- "there is none", and nothing else does.
 use Prim.Native.Nat.{ℕ}
 use native.Mathlib.Omega.{arith}
-use mathlib.Core.Path.{◌≡◌, refl, sym, ap, ◌∙◌}
-use mathlib.Core.Bool.{Bool, false}
+use mathlib.Core.Path.{◌≡◌, sym, ap, ◌∙◌}
+use mathlib.Core.Bool.{false}
 use mathlib.Core.List.{List, [], ◌∷◌}
 use borrow.Author.Tests.{ltb-false, ne_eqb}
 use Rattle.octets.specs.Pick.{pick_cases}

@@ -26,7 +26,6 @@ use Rattle.promises.proofs.Facts.{and_left}
 use Rattle.promises.proofs.Slots.{idle-collects, parts, get_d_set_default}
 use Rattle.promises.proofs.Pool.{body_at, body_append}
 use Rattle.promises.proofs.Walks.{Changed, stays, goes, Touches}
-use Rattle.promises.proofs.Quiet.{here}
 use Rattle.promises.proofs.Since.{gathered_snoc, due, due_snoc, numbered_snoc, all_snoc, opens_snoc, opens_as}
 
 -- the slot s at place i holds what the packets l brought

@@ -29,7 +29,6 @@ use Rattle.promises.proofs.Slots.{collects_key, parts}
 use Rattle.promises.proofs.Pool.{slot_le, body_at, pool_length, body_apart}
 use Rattle.promises.proofs.Gate.{Source, collected, opens}
 use Rattle.promises.proofs.Outcome.{Took}
-use Rattle.promises.proofs.Quiet.{here, kind}
 use Rattle.promises.proofs.Since.{since_other, since-opens, since_more, opens_as}
 use Rattle.promises.proofs.Story.{Story, Inv, goes_on, begins}
 

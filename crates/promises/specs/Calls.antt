@@ -2,7 +2,7 @@
 -- B is the most bytes that a body holds.
 -- A receive comes in two kinds: it is lent the watched pool, or any other buffer. No other call writes a pool.
 -- Leans on the definitions that the contracts of `estack` cite, and on nothing else.
-use Rattle.std.specs.Prelude.{ℕ, ◌+◌, ◌≤◌, Bool, true, false, not, ◌&&◌, List, [], ◌∷◌, leb, length}
+use Rattle.std.specs.Prelude.{ℕ, ◌+◌, Bool, true, false, not, ◌&&◌, List, [], ◌∷◌, leb, length}
 use Rattle.config.specs.Config.{slot_time}
 use Rattle.octets.specs.Bytes.{over}
 use Rattle.mctp.specs.declared.Eid.{Eid}

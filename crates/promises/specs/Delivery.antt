@@ -1,7 +1,7 @@
 -- What it means that a message is delivered: its packets come in order, with calls between, none before the last hands anything out, and the last hands out
 -- exactly that message. And what demand 3 asks of the state at the first fragment.
 -- Leans on `Calls`, and on `fragment` for what DSP0236 calls a message in packets.
-use Rattle.std.specs.Prelude.{ℕ, ◌+◌, ◌*◌, ◌≤◌, ◌≡◌, Bool, true, false, not, ◌&&◌, ◌||◌, List, [], ◌∷◌, ltb, length, get_or}
+use Rattle.std.specs.Prelude.{ℕ, ◌*◌, ◌≤◌, ◌≡◌, Bool, true, false, ◌&&◌, ◌||◌, List, [], ◌∷◌, ltb, length}
 use Rattle.octets.specs.Pick.{pick}
 use Rattle.octets.specs.Find.{find}
 use Rattle.octets.specs.Bytes.{part}
@@ -13,7 +13,6 @@ use Rattle.mctp.specs.declared.Cookie.TheVariants.{Absent}
 use Rattle.mctp.specs.Terms.{same_eid, any_eid}
 use Rattle.mctp.specs.Answer.{gives}
 use Rattle.flows.specs.Table.{standing, flow_cookie}
-use Rattle.slot.specs.declared.Reassembler.{Reassembler}
 use Rattle.slot.specs.Slot.{is_empty, collects}
 use Rattle.reassemble.specs.Enter.{is_local}
 use Rattle.state.specs.Stack.{Stack, slot_at}

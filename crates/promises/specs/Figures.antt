@@ -2,8 +2,6 @@
 -- Each starts on a fresh stack of 4 slots of 1,032 bytes, own EID 8, clock 0; the pool is 4,128 zero bytes.
 -- Leans on `Calls` and the definitions of `estack` and `fragment`.
 use Rattle.std.specs.Prelude.{ℕ, ◌≡◌, Bool, true, false, List, [], ◌∷◌, ◌++◌, map, replicate}
-use Rattle.mctp.specs.declared.Eid.{Eid}
-use Rattle.mctp.specs.declared.Tag.{Tag}
 use Rattle.mctp.specs.declared.Cookie.TheVariants.{Absent}
 use Rattle.mctp.specs.Terms.{error_no, tag_of}
 use Rattle.slot.specs.Slot.{is_empty}
@@ -26,7 +24,7 @@ use Rattle.sending.specs.declared.SendMtu.TheVariants.{Own, AtMost}
 use Rattle.sending.specs.Sends.{start_send_of}
 use Rattle.updating.specs.Update.{update_of}
 use Rattle.estack.specs.Basics.{fresh_stack}
-use Rattle.promises.specs.Calls.{World, Call, receive, update, start_send, step, receipt}
+use Rattle.promises.specs.Calls.{World, receive, update, step, receipt}
 use Rattle.promises.specs.Delivery.{Message, message_at}
 
 -- what a figure shows

@@ -1,7 +1,7 @@
 -- Which slot a search finds in a list of slots of any length:
 -- the first that collects the key, else the first empty one; and the earliest that is done.
 -- Leans on `find`, and on specs/Slot.antt.
-use Rattle.std.specs.Prelude.{ℕ, zero, suc, Bool, true, false, List, [], ◌∷◌, ltb, length, get_or}
+use Rattle.std.specs.Prelude.{ℕ, suc, Bool, List, [], ◌∷◌, ltb, length, get_or}
 use Rattle.octets.specs.Pick.{pick}
 use Rattle.octets.specs.Find.{find}
 use Rattle.mctp.specs.declared.HeaderRead.{HeaderRead}

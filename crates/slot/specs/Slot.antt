@@ -1,7 +1,7 @@
 -- A slot is empty, collecting or done; a done slot has a handle out or not (docs/RULES.md 37).
 -- What a slot matches, and what a handle and time do to it.
 -- Leans on `mctp` for keys, on `stamp` for time.
-use Rattle.std.specs.Prelude.{ℕ, Bool, true, false, not, List, [], ◌∷◌, eqb}
+use Rattle.std.specs.Prelude.{ℕ, Bool, true, false, List, [], ◌∷◌, eqb}
 use Rattle.config.specs.Config.{slot_time}
 use Rattle.octets.specs.Pick.{pick}
 use Rattle.mctp.specs.declared.Eid.{Eid}

@@ -1,7 +1,7 @@
 -- The stack that a buffer holds: a head, a list of flow places, a list of slots. `Kept` is the one premise of every call: bytes such as earlier calls give.
 -- `Becomes` says what a store makes: the stack that is then held, and what lies past the state as it was.
 -- Leans on `Layout`, `Head`, `Slot` and on `flows` for a place's codec; on `octets` for blocks of equal width.
-use Rattle.std.specs.Prelude.{ℕ, ◌+◌, ◌≤◌, ◌≡◌, List, ◌++◌, length, get_or, set, drop}
+use Rattle.std.specs.Prelude.{ℕ, ◌≤◌, ◌≡◌, List, ◌++◌, length, get_or, set, drop}
 use Rattle.config.specs.Config.{flow_count}
 use Rattle.octets.specs.Bytes.{part}
 use Rattle.octets.specs.Region.{region, Holds, Regular, bytes}

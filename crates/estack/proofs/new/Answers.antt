@@ -24,31 +24,31 @@ same-refusal b r e = pick_cases (λ (x : Done). Refused BadArgument ≡ x) (λ _
 
 pub returns-then-mtu-lt-MIN_MTU : goal.returns-then-mtu-lt-MIN_MTU
 unfolding new_says
-returns-then-mtu-lt-MIN_MTU c =  record {
-      said = search (lt-ltb c.args.mtu 5 (omega arith), picks);
-      stack = refl;
-    }
+returns-then-mtu-lt-MIN_MTU c = record {
+  said = search (lt-ltb c.args.mtu 5 (omega arith), picks);
+  stack = refl;
+}
 
 pub returns-then-sizes-gt255 : goal.returns-then-sizes-gt255
 unfolding new_says
-returns-then-sizes-gt255 c =  record {
-      said = same-refusal _ _ (search picks);
-      stack = refl;
-    }
+returns-then-sizes-gt255 c = record {
+  said = same-refusal _ _ (search picks);
+  stack = refl;
+}
 
 pub returns-then-sizes-gt65535 : goal.returns-then-sizes-gt65535
 unfolding new_says
-returns-then-sizes-gt65535 c =  record {
-      said = same-refusal _ _ (search picks);
-      stack = refl;
-    }
+returns-then-sizes-gt65535 c = record {
+  said = same-refusal _ _ (search picks);
+  stack = refl;
+}
 
 pub returns-then-state-size : goal.returns-then-state-size
 unfolding new_says
-returns-then-state-size c =  record {
-      said = search picks;
-      stack = refl;
-    }
+returns-then-state-size c = record {
+  said = search picks;
+  stack = refl;
+}
 
 pub put_head-requires : goal.put_head-requires
 put_head-requires c =

@@ -1,4 +1,3 @@
-use Prim.Native.Nat.{◌-◌}
 use Rattle.state.proofs.PartLoops.{timed_flows, check_start, check_next, check_done}
 use borrow.Author.Rules.{rules}
 use Rattle.flow_walks.proofs.expire_flows.Goals as goal

@@ -5,7 +5,6 @@ use Rattle.state.proofs.StackLaws.{flows_length}
 use Rattle.flow_walks.specs.FlowWalks.{has_flow_word}
 use borrow.Author.Tests.{eq-eqb, ne_eqb}
 use mathlib.Core.Path.{sym, ◌∙◌}
-use Prim.Native.Nat.{◌-◌}
 use native.Mathlib.Omega.{arith}
 use borrow.Author.Rules.{rules}
 use Rattle.flow_walks.proofs.find_flow_word.Goals as goal

@@ -5,7 +5,6 @@ use Rattle.state.specs.Stack.{stack_of}
 use Rattle.state.proofs.StackLaws.{flows_length}
 use mathlib.Core.Path.{sym, ap, ◌∙◌}
 use mathlib.Core.Bool.{not}
-use Prim.Native.Nat.{◌-◌}
 use native.Mathlib.Omega.{arith}
 use borrow.Author.Rules.{rules}
 use Rattle.flow_walks.proofs.find_free.Goals as goal

@@ -7,7 +7,7 @@ use Rattle.state.proofs.StackLaws.{flows_length, flow_ok}
 use lib.Seq.{take_all}
 use mathlib.Core.List.{List}
 use mathlib.Core.Path.{sym, ap, ◌∙◌}
-use Prim.Native.Nat.{ℕ, ◌-◌}
+use Prim.Native.Nat.{ℕ}
 use native.Mathlib.Omega.{arith}
 use borrow.Author.Rules.{rules}
 use Rattle.flow_walks.proofs.used_tags.Goals as goal

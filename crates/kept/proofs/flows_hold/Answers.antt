@@ -1,4 +1,3 @@
-use Prim.Native.Nat.{◌-◌}
 use Rattle.config.specs.Config.{flow_count}
 use Rattle.flows.specs.Codec.{flow_codec}
 use Rattle.state.specs.Layout.{flows_at}

@@ -14,7 +14,7 @@ use Rattle.kept.specs.Tells.{Tells}
 use Rattle.kept.specs.Ranges.{SlotRanges}
 use Rattle.state.specs.Slot.{slot_of, slot_from, slot_codec, SlotOk}
 use Rattle.state.proofs.SlotLaws.{slot_lawful}
-use Rattle.kept.proofs.TellLaws.{says_no_lem, refuted, shown}
+use Rattle.kept.proofs.TellLaws.{says_no_lem, refuted}
 use Rattle.kept.proofs.BlockLaws.{unheld, reheld}
 use Rattle.kept.proofs.RangeLaws.{slot_ranged, slot_tested}
 use Rattle.std.proofs.lemmas.Bool.{not_from_false}

@@ -1,4 +1,3 @@
-use Prim.Native.Nat.{◌-◌}
 use Rattle.state.specs.Layout.{slots_at}
 use Rattle.state.specs.Slot.{slot_codec}
 use Rattle.kept.proofs.TellLaws.{says_no_lem, says_yes, refuted, shown}

@@ -1,4 +1,3 @@
-use Prim.Native.Nat.{◌-◌}
 use Rattle.state.proofs.PartLoops.{timed_slots, check_start, check_next, check_done}
 use borrow.Author.Rules.{rules}
 use Rattle.slot_walks.proofs.expire_slots.Goals as goal

@@ -1,4 +1,3 @@
-use Prim.Native.Nat.{◌-◌}
 use borrow.Author.Rules.{rules}
 use Rattle.slot_walks.proofs.SlotChecks.{sweep_start, sweep_stops, sweep_goes_on, sweep_ends}
 use Rattle.slot_walks.proofs.sweep.Goals as goal
