@@ -1,4 +1,5 @@
-use mathlib.Core.Path.{sym, ◌∙◌}
+use mathlib.Core.Bool.{true, false}
+use mathlib.Core.Path.{◌≡◌, sym, ◌∙◌}
 use borrow.Author.Rules.{rules}
 use Rattle.slot_walks.specs.SlotWalks.{chosen}
 use Rattle.slot_walks.proofs.SlotSearch.{seen_bound, seen_start, seen_takes, seen_fails, seen_open, seen_done}
@@ -18,21 +19,24 @@ better-best-requires c =
 
 pub loop-i-preserved-then-passes : goal.loop-i-preserved-then-passes
 loop-i-preserved-then-passes c =
+    let done : c.is_done.result ≡ true = search rules in
     let f = chosen c.args.choice c.args.cookies.now in
     seen_takes c.args.sizes c.args.state.now f c.loop-i.i c.loop-i.best c.loop-i.invariant c.loop-i-test.true _ c.slot_at-s.ensures.0 _
-    (sym c.is_done.ensures ∙ c.if-is_done.true) (sym c.passes.ensures ∙ c.if-passes.true) c.better-best.ensures
+    (sym c.is_done.ensures ∙ done) (sym c.passes.ensures ∙ c.if-passes.true) c.better-best.ensures
 
 pub loop-i-preserved-else-passes : goal.loop-i-preserved-else-passes
 loop-i-preserved-else-passes c =
+    let done : c.is_done.result ≡ true = search rules in
     let f = chosen c.args.choice c.args.cookies.now in
     seen_fails c.args.sizes c.args.state.now f c.loop-i.i c.loop-i.best c.loop-i.invariant c.loop-i-test.true _ c.slot_at-s.ensures.0
-    (sym c.is_done.ensures ∙ c.if-is_done.true) (sym c.passes.ensures ∙ c.if-passes.false)
+    (sym c.is_done.ensures ∙ done) (sym c.passes.ensures ∙ c.if-passes.false)
 
 pub loop-i-preserved : goal.loop-i-preserved
 loop-i-preserved c =
+    let done : c.is_done.result ≡ false = search rules in
     let f = chosen c.args.choice c.args.cookies.now in
     seen_open c.args.sizes c.args.state.now f c.loop-i.i c.loop-i.best c.loop-i.invariant c.loop-i-test.true _ c.slot_at-s.ensures.0
-    (sym c.is_done.ensures ∙ c.if-is_done.false)
+    (sym c.is_done.ensures ∙ done)
 
 pub returns : goal.returns
 returns c =
