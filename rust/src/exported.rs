@@ -1,4 +1,4 @@
-//! The calls that the archive exports, as crate `board` has them. The comparison in oracle/ takes its declarations from this file, too.
+//! The calls that the archive exports, as crate `board_c` has them. The comparison in oracle/ takes its declarations from this file, too.
 
 extern "C" {
     pub fn hyphaloom_new(state: *mut u8, state_len: usize, own: u8, mtu: usize, clock: u64) -> u8;

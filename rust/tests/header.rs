@@ -1,4 +1,4 @@
-//! Holds include/hyphaloom.h and the declarations of src/exported.rs to the exported calls of crate `board`: names, order and types of
+//! Holds include/hyphaloom.h and the declarations of src/exported.rs to the exported calls of crate `board_c`: names, order and types of
 //! all arguments, the fields of the structs, the constants, and the archive's symbols. The last tests show that it can fail.
 
 use hyphaloom::config;
@@ -199,7 +199,7 @@ fn read_row(text: &str) -> Vec<String> {
     row
 }
 
-/// How many numbers a row has by its definition: `handleWords h = h .index ∷ h .issue ∷ []`. A send's is the sentence about it.
+/// How many numbers a row has by its definition: `handle_words h = h.index ∷ h.issue ∷ []`. A send's is the sentence about it.
 fn defined_length(name: &str) -> usize {
     let (path, definition) = match name {
         "send" => {

@@ -1,4 +1,4 @@
-// The exported calls. They have one premise: the state is one that `hyphaloom_new` made and the other calls kept.
+// The calls that `board_c` exports. They have one premise: the state is one that `hyphaloom_new` made and the other calls kept.
 ghost use Rattle.std.specs.Prelude.{◌≡◌, true, length};
 ghost use Rattle.octets.specs.Bytes.{over};
 ghost use Rattle.mctp.specs.Answer.{answer_no, row_after};

@@ -1,4 +1,4 @@
-// The exported calls, for C and Rust: every public call of the stack, the fragment step and `is_kept`, over numbers, byte slices and rows of 64-bit words.
+// The calls that `board_c` exports, for C and Rust: every public call of the stack, the fragment step and `is_kept`, over numbers, byte slices and rows of 64-bit words.
 // A call that can refuse answers 0 or the refusal's number. What else it tells goes into a row that it is lent; a refusal leaves the row as it was.
 // Leans on `estack`, `fragment` and `kept` for all that is done, on `rows` for the rows and what is told. Definitions: specs/Board.antt.
 

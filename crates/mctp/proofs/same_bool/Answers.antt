@@ -1,4 +1,4 @@
--- `same_bool` is `same_bool`, by the two cases of its first argument.
+-- `same_bool` answers as its definition does, by the two cases of its first argument.
 use Rattle.mctp.specs.Terms.{same_bool}
 use Rattle.mctp.proofs.same_bool.Goals as goal
 
