@@ -340,6 +340,23 @@ fn seventeen_calls_are_exported() {
     assert_eq!(calls().matches("#[unsafe(no_mangle)]").count(), 17);
 }
 
+/// Each public call of a crate's text by its name, with all that stands from its arguments to its body: the answer's type and the clauses.
+fn promised(text: &str) -> Vec<(String, String)> {
+    let one = |part: &str| {
+        part.split_once('(').and_then(|(name, rest)| {
+            rest.split_once("\n{\n").map(|(promise, _)| (name.to_string(), spaced(promise).replace(", )", ")")))
+        })
+    };
+    text.split("fn hyphaloom_").skip(1).filter_map(one).collect()
+}
+
+#[test]
+fn each_export_promises_what_its_call_does() {
+    let exports = promised(&calls());
+    assert_eq!(exports.len(), 17);
+    assert_eq!(exports, promised(&read("crates/board/src/calls.rt")));
+}
+
 #[test]
 fn the_header_is_that_of_the_exported_calls() {
     assert_eq!(header_differences(&header()), [""; 0]);
