@@ -46,6 +46,10 @@ in_pool B i n at len h f =
     let u = place_in B 0 i n h in
     omega arith
 
+-- and the pool itself, which is at least that long
+pub in_lent_pool : (B i n at len pool : ℕ) → B * n ≤ pool → i < n → at + len ≤ B → B * i + at + len ≤ pool
+in_lent_pool B i n at len pool long h f = let r = in_pool B i n at len h f in omega arith
+
 module _ (at from : ℕ) (packet pool : List ℕ) (fits : at + (length packet - from) ≤ length pool) where
   abbrev lent : List ℕ
   lent = take (length packet - from) (drop from packet)
