@@ -3,7 +3,7 @@ use mathlib.Core.Path.{◌≡◌, refl}
 use mathlib.Core.Bool.{Bool}
 use native.Mathlib.Omega.{arith}
 use lib.ListN.{replicate}
-use borrow.Author.Tests.{lt-ltb}
+use borrow.Author.Tests.{lt-ltb, le-ltb}
 use borrow.Author.Rules.{rules}
 use Rattle.octets.specs.Bytes.{lay}
 use Rattle.octets.specs.Pick.{pick, pick_cases}
@@ -46,7 +46,7 @@ returns-then-sizes-gt65535 c = record {
 pub returns-then-state-size : goal.returns-then-state-size
 unfolding new_says
 returns-then-state-size c = record {
-  said = search picks;
+  said = search (le-ltb c.args.mtu 5 (omega arith), picks);
   stack = refl;
 }
 
@@ -61,6 +61,6 @@ returns c =
     let ok : SizesOk c.args.sizes = record { slots = c.if-sizes-gt255.false; body = c.if-sizes-gt65535.false } in
     let h = fresh_head c.args.own c.args.mtu c.args.clock in
     record {
-      said = search picks;
+      said = search (le-ltb c.args.mtu 5 (omega arith), picks);
       stack = and_then c.args.sizes (λ (t : Stack). with_head h t) c.args.state.now (lay 0 (replicate (size c.args.sizes) 0) c.args.state.now) _ (fresh.fresh_stack c.args.sizes) (fresh.fresh_becomes c.args.sizes c.args.state.now ok (search rules)) (rw c.clear.ensures at c.put_head.ensures);
     }

@@ -1,6 +1,6 @@
 -- `new` meets its contract: the tests come in the definition's order.
 use native.Mathlib.Omega.{arith}
-use borrow.Author.Tests.{lt-ltb}
+use borrow.Author.Tests.{lt-ltb, le-ltb}
 use Rattle.octets.proofs.Tests.{picks}
 use Rattle.fragment.specs.Step.{new_of}
 use Rattle.fragment.proofs.Fragmenter.new.Goals as goal
@@ -24,4 +24,4 @@ returns-then-mtu-gt-MAX_MTU c =
 
 pub returns : goal.returns
 unfolding new_of
-returns c = search (picks, ← c.tag-t.ensures)
+returns c = search (le-ltb 255 c.args.mtu (omega arith), picks, ← c.tag-t.ensures)

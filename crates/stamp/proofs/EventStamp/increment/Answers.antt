@@ -1,6 +1,6 @@
 -- `increment` is `next`: one more, or the largest value, which stays.
 use native.Mathlib.Omega.{arith}
-use borrow.Author.Tests.{lt-ltb}
+use borrow.Author.Tests.{lt-ltb, le-ltb}
 use Rattle.octets.proofs.Tests.{picks}
 use Rattle.stamp.specs.Stamp.{next}
 use Rattle.stamp.proofs.EventStamp.increment.Goals as goal
@@ -11,4 +11,4 @@ returns-then-self-lt4294967295 c = search (lt-ltb c.args.self.counter 4294967295
 
 pub returns : goal.returns
 unfolding next
-returns c = search picks
+returns c = search (le-ltb c.args.self.counter 4294967295 (omega arith), picks)
