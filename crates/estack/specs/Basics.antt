@@ -1,12 +1,10 @@
 -- docs/RULES.md 59 to 62, 74 and 75: `new`, `set_eid`, `eid`, `is_local_dest`, `cancel_flow`, `free_tags`.
 -- Each definition gives the answer and the next stack for every input; `NewMakes` gives the bytes of a new stack.
 -- Leans on `mctp` for EIDs, on `state` for the stack, on `slot_walks` for a cancel's walk.
-use Rattle.std.specs.Prelude.{ℕ, ◌≡◌, Bool, List, ltb, replicate}
+use Rattle.std.specs.Prelude.{ℕ, ◌≡◌, Bool, List, ltb, replicate, Err, Ok, Result}
 use Rattle.config.specs.Config.{flow_count, min_mtu}
 use Rattle.octets.specs.Pick.{pick}
 use Rattle.mctp.specs.declared.Eid.{Eid}
-use Rattle.mctp.specs.declared.EidRead.{EidRead}
-use Rattle.mctp.specs.declared.EidRead.TheVariants.{Normal, Refused as NotNormal}
 use Rattle.mctp.specs.declared.TagValue.{TagValue}
 use Rattle.mctp.specs.declared.Error.TheVariants.{InvalidInput, NoSpace, BadArgument}
 use Rattle.mctp.specs.Terms.{normal_eid}
@@ -20,9 +18,8 @@ use Rattle.state.specs.Layout.{size}
 use Rattle.state.specs.Head.{with_own}
 use Rattle.state.specs.Stack.{Stack, Becomes, with_head, with_slots, with_flows}
 use Rattle.slot_walks.specs.SlotWalks.{swept, blocked}
-use Rattle.handles.specs.declared.Done.{Done}
-use Rattle.handles.specs.declared.Done.TheVariants.{Well, Refused}
 use Rattle.handles.specs.Handles.{Handled}
+use Rattle.mctp.specs.declared.Error.{Error}
 
 -- a stack that has done nothing: no slot taken, no flow, tag and sequence counters 0, the planned check at 0, no handle out yet
 abbrev pub fresh_head : Eid → ℕ → ℕ → Head
@@ -44,21 +41,21 @@ fresh_stack z own mtu clock = record {
 }
 
 -- what `new` says: an MTU under 5 is BadArgument, and so are sizes that no state has; a state buffer that is too short is NoSpace
-unfoldable pub new_says : Sizes → ℕ → ℕ → Done
+unfoldable pub new_says : Sizes → ℕ → ℕ → Result (Unit {0}) Error
 new_says z room mtu =
-    pick (ltb mtu min_mtu) (Refused BadArgument)
-    (pick (ltb 255 z.slots) (Refused BadArgument)
-    (pick (ltb 65535 z.body) (Refused BadArgument) (pick (ltb room (size z)) (Refused NoSpace) Well)))
+    pick (ltb mtu min_mtu) (Err BadArgument)
+    (pick (ltb 255 z.slots) (Err BadArgument)
+    (pick (ltb 65535 z.body) (Err BadArgument) (pick (ltb room (size z)) (Err NoSpace) (Ok tt))))
 
 -- what `new` makes of a buffer: a fresh stack at its front and the rest as it was, or nothing where it refuses
-abbrev pub NewMakes : Done → Sizes → Eid → ℕ → ℕ → List ℕ → List ℕ → Type 0
-NewMakes Well z own mtu clock b b' = Becomes z b b' (fresh_stack z own mtu clock)
-NewMakes (Refused err) z own mtu clock b b' = b' ≡ b
+abbrev pub NewMakes : Result (Unit {0}) Error → Sizes → Eid → ℕ → ℕ → List ℕ → List ℕ → Type 0
+NewMakes (Ok tt) z own mtu clock b b' = Becomes z b b' (fresh_stack z own mtu clock)
+NewMakes (Err err) z own mtu clock b b' = b' ≡ b
 
 -- 8 to 254 becomes the own EID; any other is InvalidInput
-abbrev pub eid_set : EidRead → Stack → Handled
-eid_set (Normal own) st = record { stack = with_head (with_own own st.head) st; said = Well }
-eid_set (NotNormal err) st = record { stack = st; said = Refused err }
+abbrev pub eid_set : Result Eid Error → Stack → Handled
+eid_set (Ok own) st = record { stack = with_head (with_own own st.head) st; said = Ok tt }
+eid_set (Err err) st = record { stack = st; said = Err err }
 
 abbrev pub set_eid_of : ℕ → Stack → Handled
 set_eid_of eid st = eid_set (normal_eid eid) st
@@ -71,9 +68,9 @@ local_of p st = local_packet st.head.own_eid p
 -- and the flow stays. Otherwise the flow goes; it is no error where there is none. A tag above 7 is InvalidInput
 unfoldable pub cancel_of : Eid → TagValue → Stack → Handled
 cancel_of peer tag st =
-    pick (ltb 7 tag.0) (record { stack = st; said = Refused InvalidInput })
-    (pick (blocked peer tag st.slots) (record { stack = with_slots (swept peer tag st.slots) st; said = Refused BadArgument })
-    (record { stack = with_flows (removed peer tag st.flows) (with_slots (swept peer tag st.slots) st); said = Well }))
+    pick (ltb 7 tag.0) (record { stack = st; said = Err InvalidInput })
+    (pick (blocked peer tag st.slots) (record { stack = with_slots (swept peer tag st.slots) st; said = Err BadArgument })
+    (record { stack = with_flows (removed peer tag st.flows) (with_slots (swept peer tag st.slots) st); said = Ok tt }))
 
 -- how many tags are free for a peer: the zeros among its eight used-tag bits
 abbrev pub free_tags_of : Eid → Stack → ℕ

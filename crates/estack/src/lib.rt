@@ -9,35 +9,32 @@ ghost use Rattle.state.specs.Head.{with_own};
 ghost use Rattle.state.specs.Stack.{Kept, Becomes, stack_of, with_head};
 ghost use Rattle.estack.specs.Basics.{new_says, NewMakes, set_eid_of, local_of, cancel_of, free_tags_of};
 
-pub use handles::{
-    Deferred, Done, Fetched, Message, fetch_message, finished_receive, get_deferred,
-    get_deferred_bycookie, return_handle, set_cookie,
-};
-use mctp::{Eid, EidRead, Error, TagValue};
-pub use receiving::{Received, receive};
-pub use sending::{Send, SendMtu, SendTag, start_send};
+pub use handles::{Message, fetch_message, finished_receive, get_deferred, get_deferred_bycookie, return_handle, set_cookie};
+use mctp::{Eid, Error, TagValue};
+pub use receiving::{receive};
+pub use sending::{Send, start_send};
 pub use slot::ReceiveHandle;
 use stamp::EventStamp;
 use state::{Head, Sizes};
-pub use updating::{Updated, update};
+pub use updating::{update};
 
 // Makes a new stack in the front of a buffer; what lies past it stays.
-pub fn new(state: &mut [u8], sizes: Sizes, own: Eid, mtu: usize, clock: u64) -> Done
+pub fn new(state: &mut [u8], sizes: Sizes, own: Eid, mtu: usize, clock: u64) -> Result<(), Error>
     ensures said { result ≡ new_says sizes (length state.old) mtu }
     ensures stack { NewMakes result sizes own mtu clock state.old state.new }
 {
     if mtu < config::MIN_MTU {
-        return Done::Refused(Error::BadArgument);
+        return Err(Error::BadArgument);
     }
     if 255 < sizes.slots {
-        return Done::Refused(Error::BadArgument);
+        return Err(Error::BadArgument);
     }
     if 65535 < sizes.body {
-        return Done::Refused(Error::BadArgument);
+        return Err(Error::BadArgument);
     }
     let size = state::SLOTS_AT + state::SLOT_WIDTH * sizes.slots;
     if state.len() < size {
-        return Done::Refused(Error::NoSpace);
+        return Err(Error::NoSpace);
     }
     state::clear(state, size);
     let stamp = EventStamp {
@@ -54,20 +51,20 @@ pub fn new(state: &mut [u8], sizes: Sizes, own: Eid, mtu: usize, clock: u64) -> 
         issue: 0,
     };
     state::put_head(state, sizes, h);
-    Done::Well
+    Ok(())
 }
 
 // Sets the own EID, 8 to 254.
-pub fn set_eid(state: &mut [u8], sizes: Sizes, eid: u8) -> Done
+pub fn set_eid(state: &mut [u8], sizes: Sizes, eid: u8) -> Result<(), Error>
     requires { Kept sizes state.old }
     ensures { (result ≡ (set_eid_of eid (stack_of sizes state.old)).said) × Becomes sizes state.old state.new (set_eid_of eid (stack_of sizes state.old)).stack }
 {
     match Eid::new_normal(eid) {
-        EidRead::Normal(own) => {
+        Ok(own) => {
             put_own(state, sizes, own);
-            Done::Well
+            Ok(())
         }
-        EidRead::Refused(err) => Done::Refused(err),
+        Err(err) => Err(err),
     }
 }
 
@@ -96,19 +93,19 @@ pub fn is_local_dest(state: &[u8], sizes: Sizes, packet: &[u8]) -> bool
 }
 
 // Frees the replies of a peer and tag, and ends their flow.
-pub fn cancel_flow(state: &mut [u8], sizes: Sizes, source: Eid, tag: TagValue) -> Done
+pub fn cancel_flow(state: &mut [u8], sizes: Sizes, source: Eid, tag: TagValue) -> Result<(), Error>
     requires { Kept sizes state.old }
     ensures { (result ≡ (cancel_of source tag (stack_of sizes state.old)).said) × Becomes sizes state.old state.new (cancel_of source tag (stack_of sizes state.old)).stack }
 {
     if 7 < tag.0 {
-        return Done::Refused(Error::InvalidInput);
+        return Err(Error::InvalidInput);
     }
     let stopped = slot_walks::sweep(state, sizes, source, tag);
     if stopped {
-        return Done::Refused(Error::BadArgument);
+        return Err(Error::BadArgument);
     }
     flow_walks::remove_flow(state, sizes, source, tag);
-    Done::Well
+    Ok(())
 }
 
 // How many tags are free for a peer.

@@ -7,7 +7,7 @@
 
 ghost use Rattle.std.specs.Prelude.{◌≤◌, length};
 
-use estack::SendMtu;
+
 use figures_parts::{
     Show, first_packet, fresh_stack, fresh_tag, fresh_tags, packets, receive, update,
 };
@@ -37,7 +37,7 @@ const TYPE: u8 = 1;
 
 // ---- sending
 
-fn packets_of(state: &mut [u8], text: &[u8], mtu: SendMtu, payload: &[u8])
+fn packets_of(state: &mut [u8], text: &[u8], mtu: Option<usize>, payload: &[u8])
     requires { 2248 ≤ length state.old }
 {
     fresh_stack(state, MTU);
@@ -47,9 +47,9 @@ fn packets_of(state: &mut [u8], text: &[u8], mtu: SendMtu, payload: &[u8])
 fn sends(state: &mut [u8])
     requires { 2248 ≤ length state.old }
 {
-    packets_of(state, b"send aa bb cc:", SendMtu::Own, b"\xaa\xbb\xcc");
-    packets_of(state, b"\nwith MTU 6:", SendMtu::AtMost(6), b"\xaa\xbb\xcc");
-    packets_of(state, b"\nempty payload:", SendMtu::Own, b"");
+    packets_of(state, b"send aa bb cc:", None, b"\xaa\xbb\xcc");
+    packets_of(state, b"\nwith MTU 6:", Some(6), b"\xaa\xbb\xcc");
+    packets_of(state, b"\nempty payload:", None, b"");
 }
 
 fn with_mtu(state: &mut [u8], text: &[u8], mtu: usize)
@@ -60,7 +60,7 @@ fn with_mtu(state: &mut [u8], text: &[u8], mtu: usize)
         state,
         text,
         PEER,
-        SendMtu::AtMost(mtu),
+        Some(mtu),
         b"\xaa\xbb\xcc",
         ROOM,
     );
@@ -79,7 +79,7 @@ fn with_buffer(state: &mut [u8], text: &[u8], room: usize)
     requires { 2248 ≤ length state.old }
 {
     fresh_stack(state, MTU);
-    first_packet(state, text, PEER, SendMtu::Own, b"\xaa\xbb\xcc", room);
+    first_packet(state, text, PEER, None, b"\xaa\xbb\xcc", room);
 }
 
 fn buffers(state: &mut [u8])

@@ -13,9 +13,10 @@ ghost use Rattle.updating.specs.Update.{update_of};
 ghost use Rattle.board.specs.Board.{board};
 ghost use Rattle.figures_parts.specs.Figure.{bay_stack, asked};
 
-use estack::{Fetched, Message, ReceiveHandle, Received, Send, SendMtu, SendTag, Updated};
-use fragment::{Fragmented, Fragmenter, SendOutput, Started};
-use mctp::{Cookie, Eid, Error, MsgIC, MsgType};
+use updating::Next;
+use estack::{Message, ReceiveHandle, Send};
+use fragment::{Fragmented, Fragmenter, SendOutput};
+use mctp::{Eid, Error, MsgIC, MsgType};
 use state::Sizes;
 
 // ---- writing
@@ -73,24 +74,24 @@ pub fn fresh_stack(state: &mut [u8], mtu: usize)
     requires { (2248 ≤ length state.old) × (5 ≤ mtu) }
     ensures { Becomes board state.old state.new (bay_stack mtu) }
 {
-    estack::new(state, Sizes::BOARD, Eid(8), mtu, 0);
+    let _ = estack::new(state, Sizes::BOARD, Eid(8), mtu, 0);
 }
 
 // ---- sending
 
 // Starts a message of type 1 under a fresh tag.
-fn start(state: &mut [u8], peer: u8, mtu: SendMtu) -> Started
+fn start(state: &mut [u8], peer: u8, mtu: Option<usize>) -> Result<Fragmenter, Error>
     requires { Kept board state.old }
     ensures { (result ≡ (start_send_of (asked peer mtu) (stack_of board state.old)).said) × Becomes board state.old state.new (start_send_of (asked peer mtu) (stack_of board state.old)).stack }
 {
     let send = Send {
         dest: Eid(peer),
         typ: MsgType(1),
-        tag: SendTag::Fresh,
+        tag: None,
         expires: true,
         ic: MsgIC(false),
         mtu: mtu,
-        cookie: Cookie::Absent,
+        cookie: None,
     };
     estack::start_send(state, Sizes::BOARD, send)
 }
@@ -133,15 +134,15 @@ fn cut_in_two(f: Fragmenter, payload: &[u8]) {
 }
 
 // Sends to that peer, and shows the packets.
-pub fn packets(state: &mut [u8], text: &[u8], peer: u8, mtu: SendMtu, payload: &[u8])
+pub fn packets(state: &mut [u8], text: &[u8], peer: u8, mtu: Option<usize>, payload: &[u8])
     requires { Kept board state.old }
     ensures { Becomes board state.old state.new (start_send_of (asked peer mtu) (stack_of board state.old)).stack }
 {
     say(text);
     let started = start(state, peer, mtu);
     match started {
-        Started::Sends(f) => cut_in_two(f, payload),
-        Started::Refused(err) => refusal(err),
+        Ok(f) => cut_in_two(f, payload),
+        Err(err) => refusal(err),
     }
 }
 
@@ -170,7 +171,7 @@ pub fn first_packet(
     state: &mut [u8],
     text: &[u8],
     peer: u8,
-    mtu: SendMtu,
+    mtu: Option<usize>,
     payload: &[u8],
     room: usize,
 )
@@ -180,8 +181,8 @@ pub fn first_packet(
     say(text);
     let started = start(state, peer, mtu);
     match started {
-        Started::Sends(f) => cut_first(f, payload, room),
-        Started::Refused(err) => refusal(err),
+        Ok(f) => cut_first(f, payload, room),
+        Err(err) => refusal(err),
     }
 }
 
@@ -191,19 +192,19 @@ fn tag_of(f: Fragmenter) {
 
 fn show_tag(state: &mut [u8], peer: u8)
     requires { Kept board state.old }
-    ensures { Becomes board state.old state.new (start_send_of (asked peer SendMtu.Own) (stack_of board state.old)).stack }
+    ensures { Becomes board state.old state.new (start_send_of (asked peer None) (stack_of board state.old)).stack }
 {
-    let started = start(state, peer, SendMtu::Own);
+    let started = start(state, peer, None);
     match started {
-        Started::Sends(f) => tag_of(f),
-        Started::Refused(err) => refusal(err),
+        Ok(f) => tag_of(f),
+        Err(err) => refusal(err),
     }
 }
 
 // Starts a send to that peer, and shows its tag.
 pub fn fresh_tag(state: &mut [u8], text: &[u8], peer: u8)
     requires { Kept board state.old }
-    ensures { Becomes board state.old state.new (start_send_of (asked peer SendMtu.Own) (stack_of board state.old)).stack }
+    ensures { Becomes board state.old state.new (start_send_of (asked peer None) (stack_of board state.old)).stack }
 {
     say(text);
     show_tag(state, peer);
@@ -266,8 +267,8 @@ fn fetch(state: &[u8], pool: &[u8], handle: ReceiveHandle, show: Show)
 {
     let fetched = estack::fetch_message(state, Sizes::BOARD, pool, handle);
     match fetched {
-        Fetched::Message(m) => tell(pool, m, handle, show),
-        Fetched::Refused(err) => refusal(err),
+        Ok(m) => tell(pool, m, handle, show),
+        Err(err) => refusal(err),
     }
 }
 
@@ -277,7 +278,7 @@ fn settle(state: &mut [u8], pool: &[u8], handle: ReceiveHandle, show: Show)
     ensures { Kept board state.new }
 {
     fetch(state, pool, handle, show);
-    estack::finished_receive(state, Sizes::BOARD, handle);
+    let _ = estack::finished_receive(state, Sizes::BOARD, handle);
 }
 
 // Receives a packet, and shows what it gives: more to come, a message, which is then finished, or a refusal.
@@ -288,9 +289,9 @@ pub fn receive(state: &mut [u8], pool: &mut [u8], text: &[u8], packet: &[u8], sh
     say(text);
     let received = estack::receive(state, Sizes::BOARD, pool, packet);
     match received {
-        Received::More => say(b" more"),
-        Received::Message(handle) => settle(state, pool, handle, show),
-        Received::Refused(err) => refusal(err),
+        Ok(None) => say(b" more"),
+        Ok(Some(handle)) => settle(state, pool, handle, show),
+        Err(err) => refusal(err),
     }
 }
 
@@ -313,7 +314,7 @@ pub fn update(state: &mut [u8], text: &[u8], clock: u64)
     say(text);
     let updated = estack::update(state, Sizes::BOARD, clock);
     match updated {
-        Updated::Next { millis, expired } => planned(millis, expired),
-        Updated::Refused(err) => refusal(err),
+        Ok(Next { millis, expired }) => planned(millis, expired),
+        Err(err) => refusal(err),
     }
 }

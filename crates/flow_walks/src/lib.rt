@@ -13,8 +13,8 @@ ghost use Rattle.stamp.specs.Checks.{check_of};
 ghost use Rattle.state.specs.Times.{flow_times};
 ghost use Rattle.flow_walks.specs.FlowWalks.{table_of, with_table, has_flow_word};
 
-use flows::{Granted, TagFound, Wish};
-use mctp::{Cookie, Eid, Error, TagValue};
+
+use mctp::{Eid, Error, TagValue, AppCookie};
 use stamp::{Check, EventStamp};
 use state::Sizes;
 
@@ -105,8 +105,8 @@ fn insert_flow(
     peer: Eid,
     tag: TagValue,
     expires: bool,
-    cookie: Cookie,
-) -> Granted
+    cookie: Option<AppCookie>,
+) -> Result<TagValue, Error>
     requires { Kept sizes state.old × (tag.0 < 8) }
     ensures { (result ≡ (insert_flow peer tag expires cookie (table_of (stack_of sizes state.old))).granted) × Becomes sizes state.old state.new (with_table (insert_flow peer tag expires cookie (table_of (stack_of sizes state.old))).table (stack_of sizes state.old)) }
 {
@@ -115,21 +115,21 @@ fn insert_flow(
     if i < config::FLOWS {
         let f = flows::new_flow(peer, tag, expires, cookie, stamp);
         state::put_flow(state, sizes, i, f);
-        return Granted::Tag(tag);
+        return Ok(tag);
     }
-    Granted::Refused(Error::TagUnavailable)
+    Err(Error::TagUnavailable)
 }
 
 // A flow under a fresh tag: the tag counter goes up even if no tag is free.
-fn fresh_flow(state: &mut [u8], sizes: Sizes, peer: Eid, expires: bool, cookie: Cookie) -> Granted
+fn fresh_flow(state: &mut [u8], sizes: Sizes, peer: Eid, expires: bool, cookie: Option<AppCookie>) -> Result<TagValue, Error>
     requires { Kept sizes state.old }
     ensures { (result ≡ (fresh_flow peer expires cookie (table_of (stack_of sizes state.old))).granted) × Becomes sizes state.old state.new (with_table (fresh_flow peer expires cookie (table_of (stack_of sizes state.old))).table (stack_of sizes state.old)) }
 {
     let start = state::next_tag(state, sizes);
     let used = used_tags(state, sizes, peer);
     match flows::tags::free_tag(used, start) {
-        TagFound::Free(tag) => insert_flow(state, sizes, peer, tag, expires, cookie),
-        TagFound::NoneFree => Granted::Refused(Error::TagUnavailable),
+        Some(tag) => insert_flow(state, sizes, peer, tag, expires, cookie),
+        None => Err(Error::TagUnavailable),
     }
 }
 
@@ -140,8 +140,8 @@ fn fixed_flow(
     peer: Eid,
     tag: TagValue,
     expires: bool,
-    cookie: Cookie,
-) -> Granted
+    cookie: Option<AppCookie>,
+) -> Result<TagValue, Error>
     requires { Kept sizes state.old × (tag.0 < 8) }
     ensures { (result ≡ (fixed_flow peer tag expires cookie (table_of (stack_of sizes state.old))).granted) × Becomes sizes state.old state.new (with_table (fixed_flow peer tag expires cookie (table_of (stack_of sizes state.old))).table (stack_of sizes state.old)) }
 {
@@ -150,9 +150,9 @@ fn fixed_flow(
         let f = state::flow_at(state, sizes, i);
         let lasting = f.is_lasting();
         if lasting {
-            return Granted::Tag(tag);
+            return Ok(tag);
         }
-        return Granted::Refused(Error::BadArgument);
+        return Err(Error::BadArgument);
     }
     insert_flow(state, sizes, peer, tag, expires, cookie)
 }
@@ -162,18 +162,18 @@ pub fn set_flow(
     state: &mut [u8],
     sizes: Sizes,
     peer: Eid,
-    wish: Wish,
+    wish: Option<TagValue>,
     expires: bool,
-    cookie: Cookie,
-) -> Granted
+    cookie: Option<AppCookie>,
+) -> Result<TagValue, Error>
     requires { Kept sizes state.old }
     ensures { (result ≡ (set_flow peer wish expires cookie (table_of (stack_of sizes state.old))).granted) × Becomes sizes state.old state.new (with_table (set_flow peer wish expires cookie (table_of (stack_of sizes state.old))).table (stack_of sizes state.old)) }
 {
     match wish {
-        Wish::Fresh => fresh_flow(state, sizes, peer, expires, cookie),
-        Wish::Fixed(tag) => {
+        None => fresh_flow(state, sizes, peer, expires, cookie),
+        Some(tag) => {
             if 7 < tag.0 {
-                return Granted::Refused(Error::InvalidInput);
+                return Err(Error::InvalidInput);
             }
             fixed_flow(state, sizes, peer, tag, expires, cookie)
         }

@@ -4,6 +4,7 @@ use native.Mathlib.Omega.{arith}
 use mathlib.Core.Path.{◌≡◌, refl}
 use mathlib.Core.Bool.{Bool, true, false}
 use lib.ListN.{length, replicate}
+use Rattle.std.specs.Prelude.{None, Option, Some}
 use Rattle.octets.specs.Bytes.{le, num, part, field, pack}
 use Rattle.octets.specs.Pick.{pick}
 use Rattle.octets.proofs.Number.{num-le, top}
@@ -13,22 +14,21 @@ use Rattle.mctp.specs.declared.TagValue.{TagValue}
 use Rattle.mctp.specs.Header.{bit}
 use Rattle.mctp.specs.Terms.{cookie_no, cookie_value}
 use Rattle.mctp.proofs.CookieLaws.{cookie_back, cookie_small}
-use Rattle.flows.specs.declared.Expiry.{Expiry}
-use Rattle.flows.specs.declared.Expiry.TheVariants.{Never, From}
 use Rattle.flows.specs.declared.Flow.{Flow}
 use Rattle.flows.specs.Table.{no_flow, is_flow}
 use Rattle.flows.proofs.Bits.{bit_one, bit_small}
 use Rattle.flows.proofs.TableLaws.{is_flow_lem, flow_is}
 use Rattle.flows.specs.Codec.{flow_width, expiry_no, expiry_stamp, expiry_of, flow_bytes, flow_of, FlowOk, flow_codec, flow_word}
+use Rattle.stamp.specs.declared.EventStamp.{EventStamp}
 
-expiry_back : (e : Expiry) → expiry_of (expiry_no e) (expiry_stamp e).clock (expiry_stamp e).counter ≡ e
+expiry_back : (e : Option EventStamp) → expiry_of (expiry_no e) (expiry_stamp e).clock (expiry_stamp e).counter ≡ e
 unfolding expiry_of pick
-expiry_back Never = refl
-expiry_back (From s) = refl
+expiry_back None = refl
+expiry_back (Some s) = refl
 
-expiry_small : (e : Expiry) → expiry_no e < 2
-expiry_small Never = omega arith
-expiry_small (From s) = omega arith
+expiry_small : (e : Option EventStamp) → expiry_no e < 2
+expiry_small None = omega arith
+expiry_small (Some s) = omega arith
 
 pub flow_long : (f : Flow) → length (flow_bytes f) ≡ flow_width
 unfolding flow_bytes pack le

@@ -5,28 +5,26 @@ use mathlib.Core.Bool.{Bool, true, false}
 use mathlib.Core.List.{List, [], ◌∷◌}
 use lib.Count.{ones, ones_in}
 use lib.ListN.{replicate}
+use Rattle.std.specs.Prelude.{Err, None, Ok, Option, Result, Some}
 use Rattle.octets.specs.Pick.{pick}
 use Rattle.octets.specs.Find.{find}
-use Rattle.mctp.specs.declared.Cookie.{Cookie}
-use Rattle.mctp.specs.declared.Cookie.TheVariants.{Absent, Given}
 use Rattle.mctp.specs.declared.Error.TheVariants.{InvalidInput, BadArgument, TagUnavailable}
 use Rattle.stamp.specs.Stamp.{next}
-use Rattle.flows.specs.declared.Wish.{Wish}
-use Rattle.flows.specs.declared.Wish.TheVariants.{Fresh, Fixed}
-use Rattle.flows.specs.declared.Granted.{Granted}
-use Rattle.flows.specs.declared.Granted.TheVariants.{Tag, Refused}
 use Rattle.flows.specs.Tags.{bits_of, free_tag_of, free_count}
 use Rattle.flows.specs.Table.{no_flow, is_flow, flow_cookie, used_tags, new_flow, Table, insert_flow, with_tag, fresh_flow, fixed_flow, set_flow}
+use Rattle.mctp.specs.declared.AppCookie.{AppCookie}
+use Rattle.mctp.specs.declared.Error.{Error}
+use Rattle.mctp.specs.declared.TagValue.{TagValue}
 
 -- what a send asks the table for
 pub record Ask : Type 0 where
   pub peer : ℕ
-  pub wish : Wish
+  pub wish : Option TagValue
   pub expires : Bool
-  pub cookie : Cookie
+  pub cookie : Option AppCookie
 
 -- what sends get, and the table they leave
-unfoldable pub grants : List Ask → Table → List Granted
+unfoldable pub grants : List Ask → Table → List (Result TagValue Error)
 grants [] t = []
 grants (a ∷ l) t =
     let r = set_flow (record { 0 = a.peer }) a.wish a.expires a.cookie t in
@@ -39,21 +37,21 @@ left (a ∷ l) t = left l (set_flow (record { 0 = a.peer }) a.wish a.expires a.c
 abbrev pub places : ℕ → Table
 places n = record { flows = replicate n no_flow; now = record { clock = 0; counter = 0 }; counter = 0 }
 
-abbrev pub tag : ℕ → Granted
-tag n = Tag (record { 0 = n })
+abbrev pub tag : ℕ → Result TagValue Error
+tag n = Ok (record { 0 = n })
 
 abbrev pub fresh : ℕ → Ask
-fresh peer = record { peer = peer; wish = Fresh; expires = true; cookie = Absent }
+fresh peer = record { peer = peer; wish = None; expires = true; cookie = None }
 
 abbrev pub three : Bool → ℕ → Ask
-three expires cookie = record { peer = 9; wish = Fixed (record { 0 = 3 }); expires = expires; cookie = Given (record { 0 = cookie }) }
+three expires cookie = record { peer = 9; wish = Some (record { 0 = 3 }); expires = expires; cookie = Some (record { 0 = cookie }) }
 
 -- ten sends with a fresh tag: nine to peer 9, one to peer 10
 abbrev pub ten : List Ask
 ten = fresh 9 ∷ fresh 9 ∷ fresh 9 ∷ fresh 9 ∷ fresh 9 ∷ fresh 9 ∷ fresh 9 ∷ fresh 9 ∷ fresh 9 ∷ fresh 10 ∷ []
 
 -- the ninth is refused, and moves the counter all the same
-pub fresh_tags_lem : grants ten (places 64) ≡ tag 1 ∷ tag 2 ∷ tag 3 ∷ tag 4 ∷ tag 5 ∷ tag 6 ∷ tag 7 ∷ tag 0 ∷ Refused TagUnavailable ∷ tag 2 ∷ []
+pub fresh_tags_lem : grants ten (places 64) ≡ tag 1 ∷ tag 2 ∷ tag 3 ∷ tag 4 ∷ tag 5 ∷ tag 6 ∷ tag 7 ∷ tag 0 ∷ Err TagUnavailable ∷ tag 2 ∷ []
 unfolding grants set_flow fresh_flow with_tag insert_flow new_flow is_flow free_tag_of bits_of find pick next
 fresh_tags_lem = refl
 
@@ -68,7 +66,7 @@ unfolding left set_flow fresh_flow with_tag insert_flow new_flow is_flow free_ta
 fresh_left = refl
 
 -- a full table refuses, and counts the event
-pub full_table : grants (fresh 9 ∷ fresh 9 ∷ []) (places 1) ≡ tag 1 ∷ Refused TagUnavailable ∷ []
+pub full_table : grants (fresh 9 ∷ fresh 9 ∷ []) (places 1) ≡ tag 1 ∷ Err TagUnavailable ∷ []
 unfolding grants set_flow fresh_flow with_tag insert_flow new_flow is_flow free_tag_of bits_of find pick next
 full_table = refl
 
@@ -78,9 +76,9 @@ full_events = refl
 
 -- a fixed tag above 7 is refused, with nothing changed
 abbrev pub eight : Ask
-eight = record { peer = 9; wish = Fixed (record { 0 = 8 }); expires = true; cookie = Absent }
+eight = record { peer = 9; wish = Some (record { 0 = 8 }); expires = true; cookie = None }
 
-pub fixed_high : grants (eight ∷ []) (places 64) ≡ Refused InvalidInput ∷ []
+pub fixed_high : grants (eight ∷ []) (places 64) ≡ Err InvalidInput ∷ []
 unfolding grants set_flow pick
 fixed_high = refl
 
@@ -89,7 +87,7 @@ unfolding left set_flow pick
 high_stays = refl
 
 -- a fixed tag that stands with an expiry is refused
-pub fixed_expiry : grants (three true 7 ∷ three true 8 ∷ []) (places 64) ≡ tag 3 ∷ Refused BadArgument ∷ []
+pub fixed_expiry : grants (three true 7 ∷ three true 8 ∷ []) (places 64) ≡ tag 3 ∷ Err BadArgument ∷ []
 unfolding grants set_flow fixed_flow insert_flow new_flow is_flow find pick next
 fixed_expiry = refl
 
@@ -98,6 +96,6 @@ pub fixed_again : grants (three false 7 ∷ three false 8 ∷ []) (places 64) �
 unfolding grants set_flow fixed_flow insert_flow new_flow is_flow find pick next
 fixed_again = refl
 
-pub first_cookie : flow_cookie (record { 0 = 9 }) (record { 0 = 3 }) (left (three false 7 ∷ three false 8 ∷ []) (places 64)).flows ≡ Given (record { 0 = 7 })
+pub first_cookie : flow_cookie (record { 0 = 9 }) (record { 0 = 3 }) (left (three false 7 ∷ three false 8 ∷ []) (places 64)).flows ≡ Some (record { 0 = 7 })
 unfolding left set_flow fixed_flow insert_flow new_flow is_flow find pick next
 first_cookie = refl

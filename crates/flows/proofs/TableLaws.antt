@@ -10,22 +10,16 @@ use borrow.Author.Tests.{eqb-true, eq-eqb, ltb-true, ltb-false, not-true}
 use lib.Dec.{ltb}
 use lib.ListN.{length, get_or, set, length-set, length-map, get_or-eq_default}
 use lib.Seq.{get_or-set_same, get_or-set_other}
+use Rattle.std.specs.Prelude.{None, Option, Some}
 use Rattle.octets.specs.Pick.{pick, pick_true, pick_false, pick_cases}
 use Rattle.octets.specs.Find.{find}
 use Rattle.mctp.specs.declared.Eid.{Eid}
 use Rattle.mctp.specs.declared.TagValue.{TagValue}
-use Rattle.mctp.specs.declared.Cookie.{Cookie}
 use Rattle.mctp.specs.Terms.{same_eid, same_tag, cookie_value}
 use Rattle.stamp.specs.declared.EventStamp.{EventStamp}
 use Rattle.stamp.specs.Stamp.{next, is_expired, last_count}
-use Rattle.flows.specs.declared.Expiry.{Expiry}
-use Rattle.flows.specs.declared.Expiry.TheVariants.{Never, From}
 use Rattle.stamp.proofs.Order.{next_clock}
 use Rattle.flows.specs.declared.Flow.{Flow}
-use Rattle.flows.specs.declared.Wish.{Wish}
-use Rattle.flows.specs.declared.Wish.TheVariants.{Fresh, Fixed}
-use Rattle.flows.specs.declared.TagFound.{TagFound}
-use Rattle.flows.specs.declared.TagFound.TheVariants.{Free, NoneFree}
 use Rattle.flows.specs.Tags.{free_tag_of}
 use Rattle.flows.specs.Table.{no_flow, is_free, is_flow, flow_place, standing, flow_cookie, removed, used_tags, lasts, lasts_by, time_by, new_flow, Table, Flowed, counted, insert_flow, turned, with_tag, fresh_flow, fixed_flow, set_flow, flow_timeout, faded_flow, Unique}
 use Rattle.flows.specs.Codec.{FlowOk}
@@ -33,6 +27,7 @@ use Rattle.octets.proofs.Bools.{no_both, bool_cases}
 use Rattle.octets.proofs.Each.{get_d_set, get_d_mapped}
 use Rattle.octets.proofs.Finds.{find_hit, find_first, find_at, find-set, passes_in}
 use Rattle.flows.proofs.TagLaws.{used_is, Told, searched}
+use Rattle.mctp.specs.declared.AppCookie.{AppCookie}
 
 -- ---- whose a place is
 
@@ -183,7 +178,7 @@ module _ (peer : Eid) (tag : TagValue) (flows : List Flow) where
 
 -- ---- a new flow
 
-module _ (peer : Eid) (tag : TagValue) (expires : Bool) (cookie : Cookie) (s : EventStamp) where
+module _ (peer : Eid) (tag : TagValue) (expires : Bool) (cookie : Option AppCookie) (s : EventStamp) where
   pub new_is : Is peer tag (new_flow peer tag expires cookie s)
   unfolding new_flow
   new_is = pick_cases (Is peer tag) (λ _. record { used = refl; peer = refl; tag = refl }) (λ _. record { used = refl; peer = refl; tag = refl })
@@ -212,7 +207,7 @@ counted_counter expires s h =
 
 -- ---- an insertion
 
-module _ (peer : Eid) (tag : TagValue) (expires : Bool) (cookie : Cookie) (t : Table) where
+module _ (peer : Eid) (tag : TagValue) (expires : Bool) (cookie : Option AppCookie) (t : Table) where
   abbrev after : List Flow
   after = (insert_flow peer tag expires cookie t).table.flows
 
@@ -264,7 +259,7 @@ module _ (peer : Eid) (tag : TagValue) (expires : Bool) (cookie : Cookie) (t : T
 
 -- ---- what a send makes of the table
 
-module _ (peer : Eid) (expires : Bool) (cookie : Cookie) (t : Table) where
+module _ (peer : Eid) (expires : Bool) (cookie : Option AppCookie) (t : Table) where
   -- the table with another counter
   abbrev with : ℕ → Table
   with n = record { flows = t.flows; now = t.now; counter = n }
@@ -273,11 +268,11 @@ module _ (peer : Eid) (expires : Bool) (cookie : Cookie) (t : Table) where
   inserted tag n = (insert_flow peer tag expires cookie (with n)).table.flows
 
   fresh : (P : List Flow → Type 0) → P t.flows
-      → ((tag : TagValue) (n : ℕ) → tag.0 < 8 → standing peer tag t.flows ≡ false → P (inserted tag n)) → (n start : ℕ) (r : TagFound)
+      → ((tag : TagValue) (n : ℕ) → tag.0 < 8 → standing peer tag t.flows ≡ false → P (inserted tag n)) → (n start : ℕ) (r : Option TagValue)
       → Told (used_tags peer t.flows) start r → P (with_tag peer r expires cookie (with n)).table.flows
   unfolding with_tag
-  fresh P same ins n start (Free tag) told = ins tag n told.below (sym (used_is peer tag.0 t.flows told.below) ∙ told.clear)
-  fresh P same ins n start NoneFree told = same
+  fresh P same ins n start (Some tag) told = ins tag n told.below (sym (used_is peer tag.0 t.flows told.below) ∙ told.clear)
+  fresh P same ins n start None told = same
 
   -- a fixed tag that stands leaves the table as it is: its flow keeps its first cookie
   pub fixed_stands : (tag : TagValue) → standing peer tag t.flows ≡ true → (fixed_flow peer tag expires cookie t).table ≡ t
@@ -292,17 +287,17 @@ module _ (peer : Eid) (expires : Bool) (cookie : Cookie) (t : Table) where
       (λ n. subst (λ (r : Flowed). P r.table.flows) (sym (pick_false _ _ _ n)) (ins n))
 
   -- proof by cases: the flows stay, or a tag that does not stand is inserted
-  pub by_insert : (P : List Flow → Type 0) (wish : Wish) → P t.flows
+  pub by_insert : (P : List Flow → Type 0) (wish : Option TagValue) → P t.flows
       → ((tag : TagValue) (n : ℕ) → tag.0 < 8 → standing peer tag t.flows ≡ false → P (inserted tag n))
       → P (set_flow peer wish expires cookie t).table.flows
   unfolding set_flow fresh_flow
-  by_insert P Fresh same ins =
+  by_insert P None same ins =
       let start = (turned t).counter in
       fresh P same ins start start (free_tag_of (used_tags peer t.flows) start) (searched (used_tags peer t.flows) start)
-  by_insert P (Fixed tag) same ins =
+  by_insert P (Some tag) same ins =
       pick_cases (λ (r : Flowed). P r.table.flows) (λ _. same) (λ n. fixed P tag same (ins tag t.counter (omega (arith, ltb-false))))
 
-  pub set_flow_unique : (wish : Wish) → Unique t.flows → Unique (set_flow peer wish expires cookie t).table.flows
+  pub set_flow_unique : (wish : Option TagValue) → Unique t.flows → Unique (set_flow peer wish expires cookie t).table.flows
   set_flow_unique wish unique = by_insert Unique wish unique (λ tag n _ free. insert_unique peer tag expires cookie (with n) free unique)
 
 -- ---- time
@@ -373,6 +368,6 @@ module _ (now : ℕ) where
   pub lasting : (f : Flow) → lasts f ≡ true → is_expired (flow_timeout now f) ≡ false
   lasting f = by f.expiry
     where
-      by : (e : Expiry) → lasts_by e ≡ true → is_expired (time_by now e) ≡ false
-      by Never y = refl
-      by (From s) y = absurd (no_both y refl)
+      by : (e : Option EventStamp) → lasts_by e ≡ true → is_expired (time_by now e) ≡ false
+      by None y = refl
+      by (Some s) y = absurd (no_both y refl)

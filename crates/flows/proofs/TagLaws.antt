@@ -13,6 +13,7 @@ use lib.Count.{ones, ones_step}
 use lib.Dec.{eqb, ltb}
 use lib.ListN.{length, get_or, take}
 use lib.Seq.{take-suc}
+use Rattle.std.specs.Prelude.{None, Option, Some}
 use Rattle.octets.specs.Pick.{pick, pick_true, pick_false, pick_cases}
 use Rattle.octets.specs.Find.{find}
 use Rattle.mctp.specs.declared.Eid.{Eid}
@@ -20,8 +21,6 @@ use Rattle.mctp.specs.declared.TagValue.{TagValue}
 use Rattle.mctp.specs.Terms.{same_eid}
 use Rattle.mctp.specs.Header.{bit}
 use Rattle.flows.specs.declared.Flow.{Flow}
-use Rattle.flows.specs.declared.TagFound.{TagFound}
-use Rattle.flows.specs.declared.TagFound.TheVariants.{Free, NoneFree}
 use Rattle.flows.specs.Tags.{bits_of, is_set, set_bit, marked, turn, is_free_in, free_tag_of, free_count, count_free}
 use Rattle.flows.specs.Table.{no_flow, is_flow, standing, used_tags}
 use Rattle.octets.proofs.Finds.{find_hit, find_first, find_at, find_none, some_found, some_snoc}
@@ -184,7 +183,7 @@ turn_at start k h =
 module _ (used start : ℕ) where
   -- the first free tag is found
   pub free_found : (k : ℕ) → k < 8 → is_free_in used ((start + k) % 8) ≡ true → ((j : ℕ) → j < k → is_free_in used ((start + j) % 8) ≡ false)
-      → free_tag_of used start ≡ Free (record { 0 = (start + k) % 8 })
+      → free_tag_of used start ≡ Some (record { 0 = (start + k) % 8 })
   unfolding free_tag_of
   free_found k h y first =
       let p = is_free_in used in
@@ -193,7 +192,7 @@ module _ (used start : ℕ) where
       rw at (pick_true (ltb k 8) _ _ (lt-ltb k 8 h))
 
   -- none is free
-  pub free_none : ((j : ℕ) → j < 8 → is_free_in used ((start + j) % 8) ≡ false) → free_tag_of used start ≡ NoneFree
+  pub free_none : ((j : ℕ) → j < 8 → is_free_in used ((start + j) % 8) ≡ false) → free_tag_of used start ≡ None
   unfolding free_tag_of
   free_none nowhere =
       let at : find (is_free_in used) (turn start) ≡ 8 = find_none (is_free_in used) (turn start) 0 (λ j l. ap (is_free_in used) (turn_at start j l) ∙ nowhere j l) in
@@ -208,9 +207,9 @@ module _ (used start : ℕ) where
     pub before : (j : ℕ) → j < turns → is_set ((start + j) % 8) used ≡ true
 
   -- what the search tells: the first free tag, or that all eight are used
-  abbrev pub Told : TagFound → Type 0
-  Told (Free t) = Found t
-  Told NoneFree = (t : ℕ) → t < 8 → is_set t used ≡ true
+  abbrev pub Told : Option TagValue → Type 0
+  Told (Some t) = Found t
+  Told None = (t : ℕ) → t < 8 → is_set t used ≡ true
 
   -- the search comes by every tag
   met : (t : ℕ) → t < 8 → (start + (t + (8 - start % 8)) % 8) % 8 ≡ t

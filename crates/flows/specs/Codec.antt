@@ -1,30 +1,28 @@
 -- A flow in 32 bytes: used, peer and tag come first, so that one number of 4 bytes tells which peer and tag a place belongs to.
 -- `FlowOk` gives the ranges that a flow's fields always have.
 -- Leans on `octets` for rows of numbers.
-use Rattle.std.specs.Prelude.{ℕ, ◌+◌, ◌*◌, ◌^◌, ◌<◌, List, [], ◌∷◌, eqb}
+use Rattle.std.specs.Prelude.{ℕ, ◌+◌, ◌*◌, ◌^◌, ◌<◌, List, [], ◌∷◌, eqb, None, Option, Some}
 use Rattle.octets.specs.Pick.{pick}
 use Rattle.octets.specs.Bytes.{field, pack}
 use Rattle.octets.specs.Region.{Codec}
 use Rattle.mctp.specs.Terms.{cookie_no, cookie_value, cookie_of}
 use Rattle.mctp.specs.Header.{bit}
 use Rattle.stamp.specs.declared.EventStamp.{EventStamp}
-use Rattle.flows.specs.declared.Expiry.{Expiry}
-use Rattle.flows.specs.declared.Expiry.TheVariants.{Never, From}
 use Rattle.flows.specs.declared.Flow.{Flow}
 
 abbrev pub flow_width : ℕ
 flow_width = 32
 
-abbrev pub expiry_no : Expiry → ℕ
-expiry_no Never = 0
-expiry_no (From s) = 1
+abbrev pub expiry_no : Option EventStamp → ℕ
+expiry_no None = 0
+expiry_no (Some s) = 1
 
-abbrev pub expiry_stamp : Expiry → EventStamp
-expiry_stamp Never = record { clock = 0; counter = 0 }
-expiry_stamp (From s) = s
+abbrev pub expiry_stamp : Option EventStamp → EventStamp
+expiry_stamp None = record { clock = 0; counter = 0 }
+expiry_stamp (Some s) = s
 
-unfoldable pub expiry_of : ℕ → ℕ → ℕ → Expiry
-expiry_of n clock counter = pick (eqb n 1) (From (record { clock = clock; counter = counter })) Never
+unfoldable pub expiry_of : ℕ → ℕ → ℕ → Option EventStamp
+expiry_of n clock counter = pick (eqb n 1) (Some (record { clock = clock; counter = counter })) None
 
 -- the fields of a flow, each a width and a number
 abbrev pub flow_row : ℕ → ℕ → ℕ → ℕ → ℕ → ℕ → ℕ → ℕ → List (ℕ × ℕ)

@@ -1,7 +1,7 @@
 -- Tags as bits of a byte, and the search for a free one.
 -- The search's promise says what it finds, not how.
 -- Leans on `find`.
-use Rattle.std.specs.Prelude.{ℕ, zero, suc, ◌+◌, ◌-◌, ◌*◌, ◌/◌, ◌%◌, ◌^◌, Bool, not, List, [], ◌∷◌, ltb, eqb}
+use Rattle.std.specs.Prelude.{ℕ, zero, suc, ◌+◌, ◌-◌, ◌*◌, ◌/◌, ◌%◌, ◌^◌, Bool, not, List, [], ◌∷◌, ltb, eqb, None, Option, Some}
 use Rattle.std.specs.Int.Count.{ones}
 use Rattle.octets.specs.Pick.{pick}
 use Rattle.octets.specs.Find.{find}
@@ -9,8 +9,7 @@ use Rattle.mctp.specs.declared.Eid.{Eid}
 use Rattle.mctp.specs.Terms.{same_eid}
 use Rattle.mctp.specs.Header.{bit}
 use Rattle.flows.specs.declared.Flow.{Flow}
-use Rattle.flows.specs.declared.TagFound.{TagFound}
-use Rattle.flows.specs.declared.TagFound.TheVariants.{Free, NoneFree}
+use Rattle.mctp.specs.declared.TagValue.{TagValue}
 
 -- the number whose n low bits are what f says of t, t + 1, ..
 unfoldable pub bits_of : (ℕ → Bool) → ℕ → ℕ → ℕ
@@ -38,9 +37,9 @@ abbrev pub is_free_in : ℕ → ℕ → Bool
 is_free_in used t = not (is_set t used)
 
 -- the first free tag from start on, 0 after 7
-unfoldable pub free_tag_of : ℕ → ℕ → TagFound
+unfoldable pub free_tag_of : ℕ → ℕ → Option TagValue
 free_tag_of used start =
-    pick (ltb (find (is_free_in used) (turn start)) 8) (Free (record { 0 = (start + find (is_free_in used) (turn start)) % 8 })) NoneFree
+    pick (ltb (find (is_free_in used) (turn start)) 8) (Some (record { 0 = (start + find (is_free_in used) (turn start)) % 8 })) None
 
 -- how many tags are free: the zeros among the eight used-tag bits
 abbrev pub free_count : ℕ → ℕ

@@ -10,45 +10,19 @@ ghost use Rattle.flows.specs.Tags.{marked};
 ghost use Rattle.flows.specs.Table.{no_flow, lasts, new_flow, flow_timeout};
 ghost use Rattle.flows.specs.Codec.{expiry_no, expiry_stamp, expiry_of, flow_of, flow_bytes, flow_row, FlowOk};
 
-use mctp::{Cookie, Eid, Error, TagValue};
+use mctp::{Eid, Error, TagValue, AppCookie};
 use octets::{get1, get4, get8, put1, put2, put8};
 use stamp::{EventStamp, Timeout};
 
 pub mod tags; // tags.rt: tags as bits of a byte, and the search for a free one
 
 #[derive(Clone, Copy)]
-pub enum Expiry {
-    Never,
-    From(EventStamp),
-}
-
-#[derive(Clone, Copy)]
 pub struct Flow {
     pub used: bool,
     pub peer: Eid,
     pub tag: TagValue,
-    pub cookie: Cookie,
-    pub expiry: Expiry,
-}
-
-// The tag that a send asks for: a fresh one, or this one.
-#[derive(Clone, Copy)]
-pub enum Wish {
-    Fresh,
-    Fixed(TagValue),
-}
-
-#[derive(Clone, Copy)]
-pub enum TagFound {
-    Free(TagValue),
-    NoneFree,
-}
-
-// What a send gets: its tag, or a refusal.
-#[derive(Clone, Copy)]
-pub enum Granted {
-    Tag(TagValue),
-    Refused(Error),
+    pub cookie: Option<AppCookie>,
+    pub expiry: Option<EventStamp>,
 }
 
 // A place that holds no flow.
@@ -61,13 +35,13 @@ pub fn no_flow() -> Flow
         used: false,
         peer: peer,
         tag: tag,
-        cookie: Cookie::Absent,
-        expiry: Expiry::Never,
+        cookie: None,
+        expiry: None,
     }
 }
 
 // A new flow; one that expires is stamped.
-pub fn new_flow(peer: Eid, tag: TagValue, expires: bool, cookie: Cookie, stamp: EventStamp) -> Flow
+pub fn new_flow(peer: Eid, tag: TagValue, expires: bool, cookie: Option<AppCookie>, stamp: EventStamp) -> Flow
     ensures { result ≡ new_flow peer tag expires cookie stamp }
 {
     if expires {
@@ -76,7 +50,7 @@ pub fn new_flow(peer: Eid, tag: TagValue, expires: bool, cookie: Cookie, stamp: 
             peer: peer,
             tag: tag,
             cookie: cookie,
-            expiry: Expiry::From(stamp),
+            expiry: Some(stamp),
         };
     }
     Flow {
@@ -84,7 +58,7 @@ pub fn new_flow(peer: Eid, tag: TagValue, expires: bool, cookie: Cookie, stamp: 
         peer: peer,
         tag: tag,
         cookie: cookie,
-        expiry: Expiry::Never,
+        expiry: None,
     }
 }
 
@@ -95,8 +69,8 @@ impl Flow {
     {
         let expiry = self.expiry;
         match expiry {
-            Expiry::Never => true,
-            Expiry::From(_) => false,
+            None => true,
+            Some(_) => false,
         }
     }
 
@@ -106,8 +80,8 @@ impl Flow {
     {
         let expiry = self.expiry;
         match expiry {
-            Expiry::Never => Timeout::Untimed,
-            Expiry::From(s) => s.check_timeout(now, config::FLOW_EXPIRY_TIMEOUT),
+            None => Timeout::Untimed,
+            Some(s) => s.check_timeout(now, config::FLOW_EXPIRY_TIMEOUT),
         }
     }
 
@@ -128,28 +102,28 @@ impl Flow {
 
 // ---- a flow in 32 bytes
 
-fn expiry_no(e: Expiry) -> u8
+fn expiry_no(e: Option<EventStamp>) -> u8
     ensures { (result ≡ expiry_no e) × (result < 2) }
 {
     match e {
-        Expiry::Never => 0,
-        Expiry::From(_) => 1,
+        None => 0,
+        Some(_) => 1,
     }
 }
 
-fn expiry_stamp(e: Expiry) -> EventStamp
+fn expiry_stamp(e: Option<EventStamp>) -> EventStamp
     ensures { result ≡ expiry_stamp e }
 {
     match e {
-        Expiry::Never => EventStamp {
+        None => EventStamp {
             clock: 0,
             counter: 0,
         },
-        Expiry::From(s) => s,
+        Some(s) => s,
     }
 }
 
-fn expiry_of(n: u8, clock: u64, counter: u32) -> Expiry
+fn expiry_of(n: u8, clock: u64, counter: u32) -> Option<EventStamp>
     ensures { result ≡ expiry_of n clock counter }
 {
     if n == 1 {
@@ -157,9 +131,9 @@ fn expiry_of(n: u8, clock: u64, counter: u32) -> Expiry
             clock: clock,
             counter: counter,
         };
-        return Expiry::From(s);
+        return Some(s);
     }
-    Expiry::Never
+    None
 }
 
 // The flow that `b` starts with; a byte past its end counts as 0.
@@ -174,7 +148,7 @@ pub fn read_flow(b: &[u8]) -> Flow
     let value = get8(b, 8);
     let clock = get8(b, 16);
     let counter = get4(b, 24);
-    let cookie = Cookie::of(has, value);
+    let cookie = mctp::cookie_of(has, value);
     let expiry = expiry_of(kind, clock, counter);
     Flow {
         used: used == 1,
@@ -220,9 +194,9 @@ pub fn write_flow(b: &mut [u8], f: Flow)
         mctp::bit_of(f.used, 1),
         f.peer.0,
         f.tag.0 as u16,
-        c.present() as u16,
+        mctp::cookie_no(c) as u16,
         expiry_no(e) as u16,
-        c.value(),
+        mctp::cookie_value(c),
         t.clock,
         t.counter,
     );

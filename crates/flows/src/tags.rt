@@ -3,7 +3,7 @@
 ghost use Rattle.std.specs.Prelude.{◌≡◌, ◌%◌, ◌^◌, ◌≤◌};
 ghost use Rattle.flows.specs.Tags.{free_tag_of, free_count, is_free_in, set_bit};
 
-use super::TagFound;
+
 use mctp::TagValue;
 
 // Whether bit t is clear.
@@ -32,18 +32,18 @@ pub fn set_bit(t: u8, byte: u8) -> u8
 }
 
 // The first free tag from `start` on, 0 after 7; bit t of `used` says that tag t is taken.
-pub fn free_tag(used: u8, start: u8) -> TagFound
+pub fn free_tag(used: u8, start: u8) -> Option<TagValue>
     ensures { result ≡ free_tag_of used (start % 8) }
 {
     let mut i: u8 = 0;
     while i < 8 {
         let t = start % 8 + i;
         if tag_is_free(used, t) {
-            return TagFound::Free(TagValue(t % 8));
+            return Some(TagValue(t % 8));
         }
         i += 1;
     }
-    TagFound::NoneFree
+    None
 }
 
 // How many tags are free: eight less the ones of the used-tag byte.

@@ -9,20 +9,20 @@ use mathlib.Core.List.{List, [], ◌∷◌}
 use lib.ListN.{length}
 use lib.Dec.{leb, leb-suc-zero, leb-suc-suc}
 use borrow.Author.Tests.{eq-eqb, ne_eqb, le-leb, lt-leb, leb-true, leb-false}
+use Rattle.std.specs.Prelude.{Ok, Option}
 use Rattle.octets.specs.Pick.{pick_cases}
-use Rattle.mctp.specs.declared.Cookie.{Cookie}
 use Rattle.mctp.specs.declared.Eid.{Eid}
 use Rattle.mctp.specs.declared.MsgIC.{MsgIC}
 use Rattle.mctp.specs.declared.MsgType.{MsgType}
 use Rattle.mctp.specs.declared.Tag.{Tag}
 use Rattle.mctp.specs.Header.{lead}
 use Rattle.fragment.specs.declared.Fragmenter.{Fragmenter}
-use Rattle.fragment.specs.declared.Started.TheVariants.{Sends}
 use Rattle.fragment.specs.Step.{Sound, new_of, fresh, fitting, ends, next_of}
 use Rattle.fragment.specs.Run.{written, after, packet_count}
 use Rattle.fragment.proofs.Steps.{step_emits}
 use Rattle.fragment.proofs.Idle.{Every, every_first, every_rest}
 use Rattle.fragment.proofs.Cuts.{Sending, lead_most, next_sending, new_is, written-nil, after-nil, written_on, after_on, written_done, after_done}
+use Rattle.mctp.specs.declared.AppCookie.{AppCookie}
 
 -- what a packet takes: all that is left where that fits under the MTU, else all that the MTU has room for
 all_fits : (u size n mtu l s : ℕ) → l ≤ 5 → mtu ≤ n → s + 5 ≤ mtu → u + s + 5 ≡ size + l → u ≤ size → u + min (size - u) (min n mtu - l) ≡ size
@@ -82,7 +82,7 @@ count_is mtu size h =
     let z : size - (mtu - 5) + (mtu - 5) ≡ size = omega arith in
     rw z (omega arith))
 
-module _ (typ : MsgType) (src dest : Eid) (tag : Tag) (mtu : ℕ) (cookie : Cookie) (ic : MsgIC) (seq : ℕ) where
+module _ (typ : MsgType) (src dest : Eid) (tag : Tag) (mtu : ℕ) (cookie : Option AppCookie) (ic : MsgIC) (seq : ℕ) where
   counts_fresh : Sound (fresh typ src dest tag mtu cookie ic seq) → (payload ns : List ℕ) → Every (λ n. mtu ≤ n) ns
       → Counted (fresh typ src dest tag mtu cookie ic seq) payload ns (packet_count mtu (length payload))
   counts_fresh s payload ns u =
@@ -95,7 +95,7 @@ module _ (typ : MsgType) (src dest : Eid) (tag : Tag) (mtu : ℕ) (cookie : Cook
       rw (count_is mtu size least)
       (counts ns (size / r) (size % r) r f payload (record { sound = s; going = refl; used = omega arith }) (omega arith) part (omega arith) u)
 
-  module _ {f : Fragmenter} (is : new_of typ src dest tag mtu cookie ic seq ≡ Sends f) (payload ns : List ℕ) (u : Every (λ n. mtu ≤ n) ns) where
+  module _ {f : Fragmenter} (is : new_of typ src dest tag mtu cookie ic seq ≡ Ok f) (payload ns : List ℕ) (u : Every (λ n. mtu ≤ n) ns) where
     -- for any number of buffers
     pub counted : Counted f payload ns (packet_count mtu (length payload))
     counted =

@@ -9,14 +9,12 @@ use lib.ListN.{length, take, drop, get_or}
 use lib.Seq.{take-length}
 use lib.Dec.{ltb}
 use borrow.Author.Tests.{ltb-true, ltb-false, eqb-true}
+use Rattle.std.specs.Prelude.{Err, Ok, Option, Result, Some}
 use Rattle.octets.specs.Pick.{pick_cases}
 use Rattle.octets.specs.Bytes.{part}
 use Rattle.octets.proofs.Part.{length_part, part-add}
-use Rattle.mctp.specs.declared.Cookie.{Cookie}
 use Rattle.mctp.specs.declared.Eid.{Eid}
 use Rattle.mctp.specs.declared.Header.{Header}
-use Rattle.mctp.specs.declared.HeaderRead.{HeaderRead}
-use Rattle.mctp.specs.declared.HeaderRead.TheVariants.{Good}
 use Rattle.mctp.specs.declared.Key.{Key}
 use Rattle.mctp.specs.declared.MsgIC.{MsgIC}
 use Rattle.mctp.specs.declared.MsgType.{MsgType}
@@ -25,14 +23,13 @@ use Rattle.mctp.specs.declared.Error.{Error}
 use Rattle.mctp.specs.Terms.{tag_of, key_under}
 use Rattle.mctp.specs.Header.{header_bytes, header_of, lead, type_byte, type_of, intro}
 use Rattle.fragment.specs.declared.Fragmenter.{Fragmenter}
-use Rattle.fragment.specs.declared.Started.{Started}
-use Rattle.fragment.specs.declared.Started.TheVariants.{Sends, Refused}
 use Rattle.fragment.specs.Step.{Step, Sound, step_of, new_of, fresh, fitting, ends, header_for, packet_for, advanced_by, next_of}
 use Rattle.fragment.specs.Cutting.{PacketIs, InTurn, says_som, body_in, joined, kind_in, Carries}
 use Rattle.fragment.specs.Run.{wrote, written, after}
 use Rattle.octets.proofs.Bools.{no_both, bool_cases}
 use Rattle.mctp.proofs.RoundTrip.{read_back, type_back}
 use Rattle.fragment.proofs.Steps.{step_done, step_small, step_emits}
+use Rattle.mctp.specs.declared.AppCookie.{AppCookie}
 
 -- packets in turn, from the first on
 module _ {key : Key} {mtu number : ℕ} {som : Bool} {p : List ℕ} where
@@ -62,15 +59,15 @@ lead_most true = omega arith
 lead_most false = omega arith
 
 -- `new` gives a sound fragmenter that has sent nothing
-pub record IsNew (typ : MsgType) (src dest : Eid) (tag : Tag) (mtu : ℕ) (cookie : Cookie) (ic : MsgIC) (seq : ℕ) (f : Fragmenter) : Type 0 where
+pub record IsNew (typ : MsgType) (src dest : Eid) (tag : Tag) (mtu : ℕ) (cookie : Option AppCookie) (ic : MsgIC) (seq : ℕ) (f : Fragmenter) : Type 0 where
   pub same : fresh typ src dest tag mtu cookie ic seq ≡ f
   pub sound : Sound (fresh typ src dest tag mtu cookie ic seq)
 
-module _ (typ : MsgType) (src dest : Eid) (tag : Tag) (mtu : ℕ) (cookie : Cookie) (ic : MsgIC) (seq : ℕ) {f : Fragmenter} where
-  pub new_is : new_of typ src dest tag mtu cookie ic seq ≡ Sends f → IsNew typ src dest tag mtu cookie ic seq f
+module _ (typ : MsgType) (src dest : Eid) (tag : Tag) (mtu : ℕ) (cookie : Option AppCookie) (ic : MsgIC) (seq : ℕ) {f : Fragmenter} where
+  pub new_is : new_of typ src dest tag mtu cookie ic seq ≡ Ok f → IsNew typ src dest tag mtu cookie ic seq f
   unfolding new_of
   new_is =
-      pick_cases P (λ _. never) (λ a. pick_cases P (λ _. never) (λ b. pick_cases P (λ _. never) (λ c. pick_cases P (λ _. never) (λ d. λ (e : Sends (fresh typ src dest tag mtu cookie ic seq) ≡ Sends f).
+      pick_cases P (λ _. never) (λ a. pick_cases P (λ _. never) (λ b. pick_cases P (λ _. never) (λ c. pick_cases P (λ _. never) (λ d. λ (e : Ok (fresh typ src dest tag mtu cookie ic seq) ≡ Ok f).
       record {
         same = cc;
         sound = record {
@@ -82,10 +79,10 @@ module _ (typ : MsgType) (src dest : Eid) (tag : Tag) (mtu : ℕ) (cookie : Cook
         };
       }))))
     where
-      P : Started → Type 0
-      P r = r ≡ Sends f → IsNew typ src dest tag mtu cookie ic seq f
+      P : Result Fragmenter Error → Type 0
+      P r = r ≡ Ok f → IsNew typ src dest tag mtu cookie ic seq f
 
-      never : {x : Error} → Refused x ≡ Sends f → IsNew typ src dest tag mtu cookie ic seq f
+      never : {x : Error} → Err x ≡ Ok f → IsNew typ src dest tag mtu cookie ic seq f
       never e = let z : ◌≡◌ {A = ℕ} 0 1 = cc in absurd (omega arith)
 
 pub next_sound : (f : Fragmenter) (k : ℕ) (eom : Bool) → Sound f → Sound (advanced_by f k eom)
@@ -163,7 +160,7 @@ module _ (f : Fragmenter) (payload : List ℕ) (n : ℕ) (sending : Sending f pa
   abbrev g : Fragmenter
   g = next_of f (length payload) n
 
-  head : header_of p ≡ Good (header_for f (ends f (length payload) n))
+  head : header_of p ≡ Some (header_for f (ends f (length payload) n))
   head = read_back (header_for f (ends f (length payload) n)) sending.sound.seq sending.sound.tag (intro f.first (type_byte f.typ f.ic) b)
 
   pub packet_size : length p ≡ lead f.first + k
@@ -182,7 +179,7 @@ module _ (f : Fragmenter) (payload : List ℕ) (n : ℕ) (sending : Sending f pa
 
   packet_body : body_in p ≡ b
   packet_body =
-      ap (λ (r : HeaderRead). drop (lead (says_som r)) p) head ∙ drop-lead f.first (header_for f (ends f (length payload) n)) (type_byte f.typ f.ic) b
+      ap (λ (r : Option Header). drop (lead (says_som r)) p) head ∙ drop-lead f.first (header_for f (ends f (length payload) n)) (type_byte f.typ f.ic) b
 
   packet_kind : (ps : List (List ℕ)) → f.first ≡ true → kind_in (p ∷ ps) ≡ type_byte f.typ f.ic
   unfolding kind_in
@@ -257,7 +254,7 @@ so_far f payload ns s i d u =
       r.body ∙ ap (λ (m : ℕ). part m (g.payload_used - m) payload) u ∙ ap (λ (m : ℕ). take m payload) z,
     )
 
-module _ (typ : MsgType) (src dest : Eid) (tag : Tag) (mtu : ℕ) (cookie : Cookie) (ic : MsgIC) (seq : ℕ) where
+module _ (typ : MsgType) (src dest : Eid) (tag : Tag) (mtu : ℕ) (cookie : Option AppCookie) (ic : MsgIC) (seq : ℕ) where
   abbrev start : Fragmenter
   start = fresh typ src dest tag mtu cookie ic seq
 
@@ -273,7 +270,7 @@ module _ (typ : MsgType) (src dest : Eid) (tag : Tag) (mtu : ℕ) (cookie : Cook
       }
 
   -- a run to its end, from `new`: the packets carry the payload
-  pub cuts : {f : Fragmenter} (payload ns : List ℕ) → new_of typ src dest tag mtu cookie ic seq ≡ Sends f → (after f payload ns).done ≡ true
+  pub cuts : {f : Fragmenter} (payload ns : List ℕ) → new_of typ src dest tag mtu cookie ic seq ≡ Ok f → (after f payload ns).done ≡ true
       → Carries (key_under src dest tag) typ ic mtu payload (written f payload ns)
   cuts payload ns e =
       let n = new_is typ src dest tag mtu cookie ic seq e in

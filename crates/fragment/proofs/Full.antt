@@ -7,23 +7,23 @@ use mathlib.Core.Bool.{false}
 use mathlib.Core.List.{List, [], ◌∷◌}
 use lib.ListN.{length}
 use borrow.Author.Tests.{eqb-false}
+use Rattle.std.specs.Prelude.{Ok, Option}
 use Rattle.octets.specs.Pick.{pick}
 use Rattle.octets.specs.Bytes.{part}
 use Rattle.octets.proofs.Bools.{bool_cases}
-use Rattle.mctp.specs.declared.Cookie.{Cookie}
 use Rattle.mctp.specs.declared.Eid.{Eid}
 use Rattle.mctp.specs.declared.MsgIC.{MsgIC}
 use Rattle.mctp.specs.declared.MsgType.{MsgType}
 use Rattle.mctp.specs.declared.Tag.{Tag}
 use Rattle.mctp.specs.Header.{lead}
 use Rattle.fragment.specs.declared.Fragmenter.{Fragmenter}
-use Rattle.fragment.specs.declared.Started.TheVariants.{Sends}
 use Rattle.fragment.specs.Step.{step_of, new_of, fresh, fitting, ends, packet_for, next_of}
 use Rattle.fragment.specs.Run.{written, Full}
 use Rattle.fragment.proofs.Steps.{step_emits}
 use Rattle.fragment.proofs.Idle.{Every, every_first, every_rest}
 use Rattle.fragment.proofs.Cuts.{Sending, lead_most, packet_size, next_sending, new_is, written-nil, written_on, written_done}
 use Rattle.fragment.proofs.Figures.{from, body}
+use Rattle.mctp.specs.declared.AppCookie.{AppCookie}
 
 full_none : (mtu : ℕ) → Full mtu []
 unfolding Full
@@ -79,9 +79,9 @@ full_on (n ∷ ns) f payload s r =
     full_cons f.mtu p (written g payload ns) (filled f payload n s b d)
     (full_on ns g payload (next_sending f payload n s l d) (every_rest (λ (m : ℕ). f.mtu ≤ m) n ns r))))
 
-module _ (typ : MsgType) (src dest : Eid) (tag : Tag) (mtu : ℕ) (cookie : Cookie) (ic : MsgIC) (seq : ℕ) where
+module _ (typ : MsgType) (src dest : Eid) (tag : Tag) (mtu : ℕ) (cookie : Option AppCookie) (ic : MsgIC) (seq : ℕ) where
   -- what f writes, to the end or not, if it comes from `new` and the payload is lent at every step, with buffers of at least the MTU
-  pub full_packets : {f : Fragmenter} (payload ns : List ℕ) → new_of typ src dest tag mtu cookie ic seq ≡ Sends f → Every (λ n. mtu ≤ n) ns → Full mtu (written f payload ns)
+  pub full_packets : {f : Fragmenter} (payload ns : List ℕ) → new_of typ src dest tag mtu cookie ic seq ≡ Ok f → Every (λ n. mtu ≤ n) ns → Full mtu (written f payload ns)
   full_packets payload ns e r =
       let n = new_is typ src dest tag mtu cookie ic seq e in
       subst (λ (f : Fragmenter). Full mtu (written f payload ns)) n.same

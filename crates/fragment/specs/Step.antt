@@ -1,7 +1,7 @@
 -- docs/RULES.md 29 to 36: one step, in its order, and the bytes that it writes.
 -- A later step with room for 4 bytes emits a header alone; `emitted` covers that too, since it asks nothing about the room.
 -- Leans on `mctp` for the header's bytes.
-use Rattle.std.specs.Prelude.{ℕ, ◌+◌, ◌-◌, ◌%◌, ◌≤◌, ◌<◌, min, Bool, true, false, List, [], ◌++◌, ltb, eqb, length}
+use Rattle.std.specs.Prelude.{ℕ, ◌+◌, ◌-◌, ◌%◌, ◌≤◌, ◌<◌, min, Bool, true, false, List, [], ◌++◌, ltb, eqb, length, Err, Ok, Option, Result}
 use Rattle.config.specs.Config.{min_mtu, max_mtu}
 use Rattle.octets.specs.Pick.{pick}
 use Rattle.octets.specs.Bytes.{part}
@@ -9,7 +9,6 @@ use Rattle.mctp.specs.declared.Eid.{Eid}
 use Rattle.mctp.specs.declared.MsgType.{MsgType}
 use Rattle.mctp.specs.declared.MsgIC.{MsgIC}
 use Rattle.mctp.specs.declared.Tag.{Tag}
-use Rattle.mctp.specs.declared.Cookie.{Cookie}
 use Rattle.mctp.specs.declared.Header.{Header}
 use Rattle.mctp.specs.declared.Error.{Error}
 use Rattle.mctp.specs.declared.Error.TheVariants.{InvalidInput, NoSpace, BadArgument}
@@ -22,11 +21,10 @@ use Rattle.fragment.specs.declared.Fragmented.{Fragmented}
 use Rattle.fragment.specs.declared.Cut.{Cut}
 use Rattle.fragment.specs.declared.Plan.{Plan}
 use Rattle.fragment.specs.declared.Plan.TheVariants.{Still, Emits}
-use Rattle.fragment.specs.declared.Started.{Started}
-use Rattle.fragment.specs.declared.Started.TheVariants.{Sends, Refused}
+use Rattle.mctp.specs.declared.AppCookie.{AppCookie}
 
 -- a fragmenter that has sent nothing
-abbrev pub fresh : MsgType → Eid → Eid → Tag → ℕ → Cookie → MsgIC → ℕ → Fragmenter
+abbrev pub fresh : MsgType → Eid → Eid → Tag → ℕ → Option AppCookie → MsgIC → ℕ → Fragmenter
 fresh typ src dest tag mtu cookie ic seq = record {
   src = src;
   dest = dest;
@@ -42,12 +40,12 @@ fresh typ src dest tag mtu cookie ic seq = record {
 }
 
 -- a tag above 7 or a type above 127 is InvalidInput, and an MTU outside 5 to 255 is BadArgument
-unfoldable pub new_of : MsgType → Eid → Eid → Tag → ℕ → Cookie → MsgIC → ℕ → Started
+unfoldable pub new_of : MsgType → Eid → Eid → Tag → ℕ → Option AppCookie → MsgIC → ℕ → Result Fragmenter Error
 new_of typ src dest tag mtu cookie ic seq =
-    pick (ltb 7 (tag_of tag).0) (Refused InvalidInput)
-    (pick (ltb 127 typ.0) (Refused InvalidInput)
-    (pick (ltb mtu min_mtu) (Refused BadArgument)
-    (pick (ltb max_mtu mtu) (Refused BadArgument) (Sends (fresh typ src dest tag mtu cookie ic seq)))))
+    pick (ltb 7 (tag_of tag).0) (Err InvalidInput)
+    (pick (ltb 127 typ.0) (Err InvalidInput)
+    (pick (ltb mtu min_mtu) (Err BadArgument)
+    (pick (ltb max_mtu mtu) (Err BadArgument) (Ok (fresh typ src dest tag mtu cookie ic seq)))))
 
 -- total room: the smaller of buffer and MTU
 abbrev pub room_of : Fragmenter → ℕ → ℕ

@@ -9,7 +9,7 @@ ghost use Rattle.octets.specs.Bytes.{over, part};
 ghost use Rattle.mctp.specs.Header.{header_bytes, lead};
 ghost use Rattle.fragment.specs.Step.{new_of, advanced_by, header_for, Writable, emit_of, plan_of, next_by, output_by, written_by, step_of};
 
-use mctp::{Cookie, Eid, Error, Header, Key, MsgIC, MsgType, Tag};
+use mctp::{Eid, Error, Header, Key, MsgIC, MsgType, Tag, AppCookie};
 use octets::{beyond, smaller};
 
 #[derive(Clone, Copy)]
@@ -23,7 +23,7 @@ pub struct Fragmenter {
     pub mtu: usize,
     pub first: bool,
     pub done: bool,
-    pub cookie: Cookie,
+    pub cookie: Option<AppCookie>,
     // how many bytes of the payload have gone out
     pub payload_used: usize,
 }
@@ -32,8 +32,8 @@ pub struct Fragmenter {
 #[derive(Clone, Copy)]
 pub enum SendOutput {
     Packet(usize),
-    Complete { tag: Tag, cookie: Cookie },
-    Error { err: Error, cookie: Cookie },
+    Complete { tag: Tag, cookie: Option<AppCookie> },
+    Error { err: Error, cookie: Option<AppCookie> },
 }
 
 #[derive(Clone, Copy)]
@@ -62,12 +62,6 @@ pub struct Cut {
 pub enum Plan {
     Still(SendOutput),
     Emits(Cut),
-}
-
-#[derive(Clone, Copy)]
-pub enum Started {
-    Sends(Fragmenter),
-    Refused(Error),
 }
 
 // Writes the first packet: header, type byte, and n bytes of the payload straight into the buffer.
@@ -138,26 +132,26 @@ impl Fragmenter {
         dest: Eid,
         tag: Tag,
         mtu: usize,
-        cookie: Cookie,
+        cookie: Option<AppCookie>,
         ic: MsgIC,
         seq: u8,
-    ) -> Started
+    ) -> Result<Fragmenter, Error>
         ensures { result ≡ new_of typ src dest tag mtu cookie ic seq }
     {
         let t = tag.tag();
         if 7 < t.0 {
-            return Started::Refused(Error::InvalidInput);
+            return Err(Error::InvalidInput);
         }
         if 127 < typ.0 {
-            return Started::Refused(Error::InvalidInput);
+            return Err(Error::InvalidInput);
         }
         if mtu < config::MIN_MTU {
-            return Started::Refused(Error::BadArgument);
+            return Err(Error::BadArgument);
         }
         if config::MAX_MTU < mtu {
-            return Started::Refused(Error::BadArgument);
+            return Err(Error::BadArgument);
         }
-        Started::Sends(Fragmenter {
+        Ok(Fragmenter {
             src: src,
             dest: dest,
             typ: typ,
@@ -184,7 +178,7 @@ impl Fragmenter {
         self.dest
     }
 
-    pub fn cookie(self) -> Cookie
+    pub fn cookie(self) -> Option<AppCookie>
         ensures { result ≡ self.cookie }
     {
         self.cookie

@@ -7,8 +7,8 @@ use mathlib.Core.List.{List}
 use lib.Dec.{ltb}
 use lib.ListN.{length}
 use borrow.Author.Tests.{ltb-true, lt-ltb, le-ltb}
+use Rattle.std.specs.Prelude.{Err, None, Ok, Option, Result, Some}
 use Rattle.octets.specs.Pick.{pick}
-use Rattle.mctp.specs.declared.Cookie.{Cookie}
 use Rattle.mctp.specs.declared.Error.TheVariants.{BadArgument}
 use Rattle.mctp.specs.Terms.{cookie_value}
 use Rattle.slot.specs.declared.State.{State}
@@ -21,12 +21,10 @@ use Rattle.state.specs.Head.{with_issue}
 use Rattle.state.specs.Stack.{Stack, Kept, Becomes, stack_of, slot_at, with_slot, with_head}
 use Rattle.state.proofs.StackLaws.{slots_length, stays, and_then}
 use Rattle.slot.specs.declared.ReceiveHandle.{ReceiveHandle}
-use Rattle.handles.specs.declared.Done.{Done}
-use Rattle.handles.specs.declared.Done.TheVariants.{Well, Refused}
-use Rattle.handles.specs.declared.Deferred.{Deferred}
-use Rattle.handles.specs.declared.Deferred.TheVariants.{Found, Nothing}
 use Rattle.slot.specs.Handle.{next_issue}
 use Rattle.handles.specs.Handles.{is_good, handled, take_of}
+use Rattle.mctp.specs.declared.AppCookie.{AppCookie}
+use Rattle.mctp.specs.declared.Error.{Error}
 
 first_true : (b x : Bool) → pick b x false ≡ true → b ≡ true
 unfolding pick
@@ -43,27 +41,27 @@ good_in z b h e =
 
 module _ (z : Sizes) (f : Reassembler → Reassembler) (h : ReceiveHandle) (b : List ℕ) where
   -- what such a call says, and what it makes of the bytes
-  abbrev pub Handled : Done → List ℕ → Type 0
+  abbrev pub Handled : Result (Unit {0}) Error → List ℕ → Type 0
   Handled r b' = (r ≡ (handled f h (stack_of z b)).said) × Becomes z b b' (handled f h (stack_of z b)).stack
 
-  pub handled_good : {b' : List ℕ} → is_good h (stack_of z b) ≡ true → Becomes z b b' (with_slot h.index (f (slot_at h.index (stack_of z b))) (stack_of z b)) → Handled Well b'
+  pub handled_good : {b' : List ℕ} → is_good h (stack_of z b) ≡ true → Becomes z b b' (with_slot h.index (f (slot_at h.index (stack_of z b))) (stack_of z b)) → Handled (Ok tt) b'
   unfolding handled pick
   handled_good e p = rw e (refl, p)
 
-  pub handled_bad : is_good h (stack_of z b) ≡ false → Kept z b → Handled (Refused BadArgument) b
+  pub handled_bad : is_good h (stack_of z b) ≡ false → Kept z b → Handled (Err BadArgument) b
   unfolding handled pick
   handled_bad e k = rw e (refl, stays z b k)
 
   -- the slot that is stored may be computed beforehand
-  pub handled_at : {x : Reassembler} {r : Done} {b' : List ℕ} → x ≡ f (slot_at h.index (stack_of z b)) → (r ≡ (handled (λ _. x) h (stack_of z b)).said) × Becomes z b b' (handled (λ _. x) h (stack_of z b)).stack → Handled r b'
+  pub handled_at : {x : Reassembler} {r : Result (Unit {0}) Error} {b' : List ℕ} → x ≡ f (slot_at h.index (stack_of z b)) → (r ≡ (handled (λ _. x) h (stack_of z b)).said) × Becomes z b b' (handled (λ _. x) h (stack_of z b)).stack → Handled r b'
   unfolding handled
   handled_at e p = rw e at p
 
 -- a slot that has another state or another cookie is Ok
-abbrev changed : State → Cookie → Reassembler → Reassembler
+abbrev changed : State → Option AppCookie → Reassembler → Reassembler
 changed state cookie s = with_state state (with_slot_cookie cookie s)
 
-pub changed_ok : (B : ℕ) (s : Reassembler) → SlotOk B s → (state : State) (cookie : Cookie) → issue_no state < 2 ^ 64 → cookie_value cookie < 2 ^ 64 → SlotOk B (changed state cookie s)
+pub changed_ok : (B : ℕ) (s : Reassembler) → SlotOk B s → (state : State) (cookie : Option AppCookie) → issue_no state < 2 ^ 64 → cookie_value cookie < 2 ^ 64 → SlotOk B (changed state cookie s)
 changed_ok B s ok state cookie n v = record {
   dest = ok.dest;
   source = ok.source;
@@ -81,21 +79,21 @@ changed_ok B s ok state cookie n v = record {
 pub with_state_ok : (B : ℕ) (s : Reassembler) → SlotOk B s → (state : State) → issue_no state < 2 ^ 64 → SlotOk B (with_state state s)
 with_state_ok B s ok state n = changed_ok B s ok state s.cookie n ok.value
 
-pub with_cookie_ok : (B : ℕ) (s : Reassembler) → SlotOk B s → (cookie : Cookie) → cookie_value cookie < 2 ^ 64 → SlotOk B (with_slot_cookie cookie s)
+pub with_cookie_ok : (B : ℕ) (s : Reassembler) → SlotOk B s → (cookie : Option AppCookie) → cookie_value cookie < 2 ^ 64 → SlotOk B (with_slot_cookie cookie s)
 with_cookie_ok B s ok cookie v = changed_ok B s ok s.state cookie ok.issue v
 
 -- where a handle goes out, the slot is stored and then the count
 module _ (z : Sizes) (b : List ℕ) (i : ℕ) where
-  abbrev Taken : Deferred → List ℕ → Type 0
+  abbrev Taken : Option ReceiveHandle → List ℕ → Type 0
   Taken r b' = (r ≡ (take_of i (stack_of z b)).said) × Becomes z b b' (take_of i (stack_of z b)).stack
 
-  pub taken : (n : ℕ) {x y : List ℕ} → i < z.slots → n ≡ next_issue (stack_of z b).head.issue → Becomes z b x (with_slot i (with_state (HandleOut n) (slot_at i (stack_of z b))) (stack_of z b)) → Becomes z x y (with_head (with_issue n (stack_of z x).head) (stack_of z x)) → Taken (Found (record { index = i; issue = n })) y
+  pub taken : (n : ℕ) {x y : List ℕ} → i < z.slots → n ≡ next_issue (stack_of z b).head.issue → Becomes z b x (with_slot i (with_state (HandleOut n) (slot_at i (stack_of z b))) (stack_of z b)) → Becomes z x y (with_head (with_issue n (stack_of z x).head) (stack_of z x)) → Taken (Some (record { index = i; issue = n })) y
   unfolding take_of pick
   taken n {x = x} {y = y} h e p q =
       let st = stack_of z b in
       let r = and_then z (λ (t : Stack). with_head (with_issue n t.head) t) b x y (with_slot i (with_state (HandleOut n) (slot_at i st)) st) p q in
       rw (slots_length z b, lt-ltb i z.slots h, ← e) (refl, r)
 
-  pub not_taken : z.slots ≤ i → Kept z b → Taken Nothing b
+  pub not_taken : z.slots ≤ i → Kept z b → Taken None b
   unfolding take_of pick
   not_taken h k = rw (slots_length z b, le-ltb i z.slots h) (refl, stays z b k)

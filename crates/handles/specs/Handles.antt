@@ -1,11 +1,10 @@
 -- docs/RULES.md 72, 73, 76 and 78 to 82: fetch, finish, return, set cookie, and the deferred lookups.
 -- A handle is an index and an issue number.
 -- Leans on `slot` for a slot's part and the count of handles, on `state` for the stack.
-use Rattle.std.specs.Prelude.{ℕ, ◌*◌, Bool, false, List, [], ◌∷◌, ltb, length, set}
+use Rattle.std.specs.Prelude.{ℕ, ◌*◌, Bool, false, List, [], ◌∷◌, ltb, length, set, Err, None, Ok, Option, Result, Some}
 use Rattle.octets.specs.Pick.{pick}
 use Rattle.mctp.specs.declared.Eid.{Eid}
 use Rattle.mctp.specs.declared.Tag.{Tag}
-use Rattle.mctp.specs.declared.Cookie.{Cookie}
 use Rattle.mctp.specs.declared.Error.TheVariants.{BadArgument, PoolShort}
 use Rattle.mctp.specs.Terms.{error_no, tag_of, is_owner, cookie_no, cookie_value}
 use Rattle.mctp.specs.Answer.{Answer, gives, refuses, flag_word}
@@ -16,21 +15,17 @@ use Rattle.slot.specs.Search.{earliest}
 use Rattle.state.specs.Head.{with_issue}
 use Rattle.state.specs.Stack.{Stack, slot_at, with_slot}
 use Rattle.slot.specs.declared.ReceiveHandle.{ReceiveHandle}
-use Rattle.handles.specs.declared.Done.{Done}
-use Rattle.handles.specs.declared.Done.TheVariants.{Well, Refused}
 use Rattle.handles.specs.declared.Message.{Message}
-use Rattle.handles.specs.declared.Fetched.{Fetched}
-use Rattle.handles.specs.declared.Fetched.TheVariants.{Message as Fetch, Refused as Unfetched}
-use Rattle.handles.specs.declared.Deferred.{Deferred}
-use Rattle.handles.specs.declared.Deferred.TheVariants.{Found, Nothing}
 use Rattle.slot.specs.Handle.{next_issue, handle_words}
+use Rattle.mctp.specs.declared.AppCookie.{AppCookie}
+use Rattle.mctp.specs.declared.Error.{Error}
 
 -- ---- answers in numbers
 
 -- 0 and nothing else
-abbrev pub done_as : Done → Answer
-done_as Well = gives []
-done_as (Refused err) = refuses (error_no err) []
+abbrev pub done_as : Result (Unit {0}) Error → Answer
+done_as (Ok tt) = gives []
+done_as (Err err) = refuses (error_no err) []
 
 -- a message in numbers: source, destination, TO, tag, type, IC, has a cookie, cookie, the body's place in the pool and its length
 abbrev pub message_words : Message → List ℕ
@@ -47,14 +42,14 @@ message_words m =
     ∷ m.len
     ∷ []
 
-abbrev pub fetched_as : Fetched → Answer
-fetched_as (Fetch m) = gives (message_words m)
-fetched_as (Unfetched err) = refuses (error_no err) []
+abbrev pub fetched_as : Result Message Error → Answer
+fetched_as (Ok m) = gives (message_words m)
+fetched_as (Err err) = refuses (error_no err) []
 
 -- 0 and a handle, or 0 alone where there is none
-abbrev pub deferred_as : Deferred → Answer
-deferred_as (Found h) = gives (handle_words h)
-deferred_as Nothing = gives []
+abbrev pub deferred_as : Option ReceiveHandle → Answer
+deferred_as (Some h) = gives (handle_words h)
+deferred_as None = gives []
 
 -- ---- handles
 
@@ -64,13 +59,13 @@ is_good h st = pick (ltb h.index (length st.slots)) (handle_is h.issue (slot_at 
 
 pub record Handled : Type 0 where
   pub stack : Stack
-  pub said : Done
+  pub said : Result (Unit {0}) Error
 
 -- the slot of a good handle becomes what f makes of it; any other handle is BadArgument
 unfoldable pub handled : (Reassembler → Reassembler) → ReceiveHandle → Stack → Handled
 handled f h st =
-    pick (is_good h st) (record { stack = with_slot h.index (f (slot_at h.index st)) st; said = Well })
-    (record { stack = st; said = Refused BadArgument })
+    pick (is_good h st) (record { stack = with_slot h.index (f (slot_at h.index st)) st; said = Ok tt })
+    (record { stack = st; said = Err BadArgument })
 
 -- finish empties the slot
 abbrev pub finish_of : ReceiveHandle → Stack → Handled
@@ -81,7 +76,7 @@ abbrev pub return_of : ReceiveHandle → Stack → Handled
 return_of h st = handled (with_state Waiting) h st
 
 -- set cookie changes that slot's cookie alone
-abbrev pub set_cookie_of : ReceiveHandle → Cookie → Stack → Handled
+abbrev pub set_cookie_of : ReceiveHandle → Option AppCookie → Stack → Handled
 set_cookie_of h cookie st = handled (with_slot_cookie cookie) h st
 
 -- the message in slot i, whose body lies in the pool from byte B i on
@@ -89,14 +84,14 @@ abbrev pub message_in : ℕ → ℕ → Reassembler → Message
 message_in B i s = record { key = s.key; typ = s.typ; ic = s.ic; cookie = s.cookie; at = B * i; len = s.len }
 
 -- fetch gives the slot's message and changes nothing
-unfoldable pub fetch_of : ℕ → ReceiveHandle → Stack → ℕ → Fetched
+unfoldable pub fetch_of : ℕ → ReceiveHandle → Stack → ℕ → Result Message Error
 fetch_of B h st room =
-    pick (ltb room (B * length st.slots)) (Unfetched PoolShort)
-    (pick (is_good h st) (Fetch (message_in B h.index (slot_at h.index st))) (Unfetched BadArgument))
+    pick (ltb room (B * length st.slots)) (Err PoolShort)
+    (pick (is_good h st) (Ok (message_in B h.index (slot_at h.index st))) (Err BadArgument))
 
 pub record Lookup : Type 0 where
   pub stack : Stack
-  pub said : Deferred
+  pub said : Option ReceiveHandle
 
 -- slot i's handle goes out under the next number, where there is a slot i
 unfoldable pub take_of : ℕ → Stack → Lookup
@@ -108,9 +103,9 @@ take_of i st =
         flows = st.flows;
         slots = set st.slots i (with_state (HandleOut (next_issue st.head.issue)) (slot_at i st));
       };
-      said = Found (record { index = i; issue = next_issue st.head.issue });
+      said = Some (record { index = i; issue = next_issue st.head.issue });
     })
-    (record { stack = st; said = Nothing })
+    (record { stack = st; said = None })
 
 -- the earliest done slot that matches, with its handle now out, or none
 abbrev pub deferred_of : (Reassembler → Bool) → Stack → Lookup
@@ -119,7 +114,7 @@ deferred_of f st = take_of (earliest f st.slots) st
 -- the lookup by source, TO and tag; a tag above 7 finds none
 unfoldable pub by_source_of : Eid → Tag → Stack → Lookup
 by_source_of source tag st =
-    pick (ltb 7 (tag_of tag).0) (record { stack = st; said = Nothing }) (deferred_of (kept_under source (is_owner tag) (tag_of tag)) st)
+    pick (ltb 7 (tag_of tag).0) (record { stack = st; said = None }) (deferred_of (kept_under source (is_owner tag) (tag_of tag)) st)
 
 -- the lookup by any of a list of cookies
 abbrev pub by_cookie_of : List ℕ → Stack → Lookup

@@ -9,22 +9,9 @@ ghost use Rattle.state.specs.Slot.{SlotOk};
 ghost use Rattle.state.specs.Stack.{Kept, Becomes, stack_of};
 ghost use Rattle.handles.specs.Handles.{is_good, handled, finish_of, return_of, set_cookie_of, fetch_of, take_of, by_source_of, by_cookie_of};
 
-use mctp::{Cookie, Eid, Error, Key, MsgIC, MsgType, Tag};
+use mctp::{Eid, Error, Key, MsgIC, MsgType, Tag, AppCookie};
 use slot::{Reassembler, ReceiveHandle};
 use state::Sizes;
-
-// The answer of a call that has nothing to tell but a refusal.
-#[derive(Clone, Copy)]
-pub enum Done {
-    Well,
-    Refused(Error),
-}
-
-#[derive(Clone, Copy)]
-pub enum Deferred {
-    Found(ReceiveHandle),
-    Nothing,
-}
 
 // A message: its body is `len` bytes of the pool from byte `at`.
 #[derive(Clone, Copy)]
@@ -32,15 +19,9 @@ pub struct Message {
     pub key: Key,
     pub typ: MsgType,
     pub ic: MsgIC,
-    pub cookie: Cookie,
+    pub cookie: Option<AppCookie>,
     pub at: usize,
     pub len: usize,
-}
-
-#[derive(Clone, Copy)]
-pub enum Fetched {
-    Message(Message),
-    Refused(Error),
 }
 
 // Whether a handle is good: its slot has a handle out, under this number.
@@ -57,12 +38,12 @@ fn is_good(state: &[u8], sizes: Sizes, handle: ReceiveHandle) -> bool
 }
 
 // The message under a handle; nothing changes.
-pub fn fetch_message(state: &[u8], sizes: Sizes, pool: &[u8], handle: ReceiveHandle) -> Fetched
+pub fn fetch_message(state: &[u8], sizes: Sizes, pool: &[u8], handle: ReceiveHandle) -> Result<Message, Error>
     requires { Kept sizes state.now }
     ensures { result ≡ fetch_of sizes.body handle (stack_of sizes state.now) (length pool.now) }
 {
     if pool.len() < sizes.body * sizes.slots {
-        return Fetched::Refused(Error::PoolShort);
+        return Err(Error::PoolShort);
     }
     let good = is_good(state, sizes, handle);
     if good {
@@ -72,7 +53,7 @@ pub fn fetch_message(state: &[u8], sizes: Sizes, pool: &[u8], handle: ReceiveHan
         let typ = s.typ;
         let ic = s.ic;
         let cookie = s.cookie;
-        return Fetched::Message(Message {
+        return Ok(Message {
             key: key,
             typ: typ,
             ic: ic,
@@ -81,11 +62,11 @@ pub fn fetch_message(state: &[u8], sizes: Sizes, pool: &[u8], handle: ReceiveHan
             len: s.len,
         });
     }
-    Fetched::Refused(Error::BadArgument)
+    Err(Error::BadArgument)
 }
 
 // The slot of a good handle becomes `s`; any other handle is BadArgument.
-fn put_under(state: &mut [u8], sizes: Sizes, handle: ReceiveHandle, s: Reassembler) -> Done
+fn put_under(state: &mut [u8], sizes: Sizes, handle: ReceiveHandle, s: Reassembler) -> Result<(), Error>
     requires { Kept sizes state.old × SlotOk sizes.body s }
     ensures { (result ≡ (handled (λ _. s) handle (stack_of sizes state.old)).said) × Becomes sizes state.old state.new (handled (λ _. s) handle (stack_of sizes state.old)).stack }
 {
@@ -93,13 +74,13 @@ fn put_under(state: &mut [u8], sizes: Sizes, handle: ReceiveHandle, s: Reassembl
     if good {
         let i = handle.index;
         state::put_slot(state, sizes, i, s);
-        return Done::Well;
+        return Ok(());
     }
-    Done::Refused(Error::BadArgument)
+    Err(Error::BadArgument)
 }
 
 // Finishes the message: its slot becomes empty.
-pub fn finished_receive(state: &mut [u8], sizes: Sizes, handle: ReceiveHandle) -> Done
+pub fn finished_receive(state: &mut [u8], sizes: Sizes, handle: ReceiveHandle) -> Result<(), Error>
     requires { Kept sizes state.old }
     ensures { (result ≡ (finish_of handle (stack_of sizes state.old)).said) × Becomes sizes state.old state.new (finish_of handle (stack_of sizes state.old)).stack }
 {
@@ -107,7 +88,7 @@ pub fn finished_receive(state: &mut [u8], sizes: Sizes, handle: ReceiveHandle) -
 }
 
 // Takes the handle back and keeps the message.
-pub fn return_handle(state: &mut [u8], sizes: Sizes, handle: ReceiveHandle) -> Done
+pub fn return_handle(state: &mut [u8], sizes: Sizes, handle: ReceiveHandle) -> Result<(), Error>
     requires { Kept sizes state.old }
     ensures { (result ≡ (return_of handle (stack_of sizes state.old)).said) × Becomes sizes state.old state.new (return_of handle (stack_of sizes state.old)).stack }
 {
@@ -117,7 +98,7 @@ pub fn return_handle(state: &mut [u8], sizes: Sizes, handle: ReceiveHandle) -> D
 }
 
 // Gives the slot of the handle another cookie, or none.
-pub fn set_cookie(state: &mut [u8], sizes: Sizes, handle: ReceiveHandle, cookie: Cookie) -> Done
+pub fn set_cookie(state: &mut [u8], sizes: Sizes, handle: ReceiveHandle, cookie: Option<AppCookie>) -> Result<(), Error>
     requires { Kept sizes state.old }
     ensures { (result ≡ (set_cookie_of handle cookie (stack_of sizes state.old)).said) × Becomes sizes state.old state.new (set_cookie_of handle cookie (stack_of sizes state.old)).stack }
 {
@@ -127,7 +108,7 @@ pub fn set_cookie(state: &mut [u8], sizes: Sizes, handle: ReceiveHandle, cookie:
 }
 
 // Gives out the handle of slot i, where there is a slot i.
-fn take(state: &mut [u8], sizes: Sizes, i: usize) -> Deferred
+fn take(state: &mut [u8], sizes: Sizes, i: usize) -> Option<ReceiveHandle>
     requires { Kept sizes state.old }
     ensures { (result ≡ (take_of i (stack_of sizes state.old)).said) × Becomes sizes state.old state.new (take_of i (stack_of sizes state.old)).stack }
 {
@@ -136,29 +117,29 @@ fn take(state: &mut [u8], sizes: Sizes, i: usize) -> Deferred
         let s = state::slot_at(state, sizes, i);
         state::put_slot(state, sizes, i, s.take_handle(issue));
         state::put_issue(state, sizes, issue);
-        return Deferred::Found(ReceiveHandle {
+        return Some(ReceiveHandle {
             index: i,
             issue: issue,
         });
     }
-    Deferred::Nothing
+    None
 }
 
 // The earliest message kept from that source under that tag.
-pub fn get_deferred(state: &mut [u8], sizes: Sizes, source: Eid, tag: Tag) -> Deferred
+pub fn get_deferred(state: &mut [u8], sizes: Sizes, source: Eid, tag: Tag) -> Option<ReceiveHandle>
     requires { Kept sizes state.old }
     ensures { (result ≡ (by_source_of source tag (stack_of sizes state.old)).said) × Becomes sizes state.old state.new (by_source_of source tag (stack_of sizes state.old)).stack }
 {
     let t = tag.tag();
     if 7 < t.0 {
-        return Deferred::Nothing;
+        return None;
     }
     let i = slot_walks::earliest_from(state, sizes, source, tag.is_owner(), t);
     take(state, sizes, i)
 }
 
 // The earliest message kept whose cookie is one of the list.
-pub fn get_deferred_bycookie(state: &mut [u8], sizes: Sizes, cookies: &[u64]) -> Deferred
+pub fn get_deferred_bycookie(state: &mut [u8], sizes: Sizes, cookies: &[u64]) -> Option<ReceiveHandle>
     requires { Kept sizes state.old }
     ensures { (result ≡ (by_cookie_of cookies.now (stack_of sizes state.old)).said) × Becomes sizes state.old state.new (by_cookie_of cookies.now (stack_of sizes state.old)).stack }
 {

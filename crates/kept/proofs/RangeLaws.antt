@@ -6,13 +6,12 @@ use mathlib.Core.List.{List, [], ◌∷◌}
 use lib.ListN.{length, get_or, drop, length-take}
 use mir.Syntax.{w8}
 use mir.Val.{Fits}
+use Rattle.std.specs.Prelude.{Option}
 use Rattle.octets.specs.Bytes.{num, part}
 use Rattle.octets.specs.Pick.{pick_cases}
 use Rattle.octets.proofs.Number.{top, Bytes, bytes_part, bytes_slice}
 use Rattle.octets.proofs.Part.{lent}
-use Rattle.mctp.specs.declared.Cookie.{Cookie}
 use Rattle.mctp.specs.Terms.{cookie_value, cookie_of}
-use Rattle.flows.specs.declared.Expiry.{Expiry}
 use Rattle.flows.specs.declared.Flow.{Flow}
 use Rattle.flows.specs.Codec.{expiry_stamp, expiry_of, flow_of, FlowOk}
 use Rattle.slot.specs.declared.State.{State}
@@ -22,6 +21,8 @@ use Rattle.state.specs.Head.{head_of, HeadOk}
 use Rattle.state.specs.Slot.{issue_no, state_from, slot_of, SlotOk}
 use Rattle.state.proofs.StackLaws.{lent_as}
 use Rattle.kept.specs.Ranges.{HeadRanges, SlotRanges}
+use Rattle.mctp.specs.declared.AppCookie.{AppCookie}
+use Rattle.stamp.specs.declared.EventStamp.{EventStamp}
 
 num_small : (w : ℕ) (s : List ℕ) → Bytes s → length s ≤ w → num s < top w
 unfolding num top Bytes
@@ -43,7 +44,7 @@ field_small at w b p = num_small w (part at w b) (bytes_part at w b p) (part_sho
 module _ (m : ℕ) (pos : 0 < m) (n v : ℕ) (h : v < m) where
   cookie_under : cookie_value (cookie_of n v) < m
   unfolding cookie_of
-  cookie_under = pick_cases (λ (c : Cookie). cookie_value c < m) (λ e. h) (λ e. pos)
+  cookie_under = pick_cases (λ (c : Option AppCookie). cookie_value c < m) (λ e. h) (λ e. pos)
 
   issue_under : issue_no (state_from n v) < m
   unfolding state_from
@@ -53,11 +54,11 @@ module _ (m : ℕ) (pos : 0 < m) (n v : ℕ) (h : v < m) where
 
   clock_under : (k : ℕ) → (expiry_stamp (expiry_of n v k)).clock < m
   unfolding expiry_of
-  clock_under k = pick_cases (λ (e : Expiry). (expiry_stamp e).clock < m) (λ e. h) (λ e. pos)
+  clock_under k = pick_cases (λ (e : Option EventStamp). (expiry_stamp e).clock < m) (λ e. h) (λ e. pos)
 
   counter_under : (k : ℕ) → (expiry_stamp (expiry_of n k v)).counter < m
   unfolding expiry_of
-  counter_under k = pick_cases (λ (e : Expiry). (expiry_stamp e).counter < m) (λ e. h) (λ e. pos)
+  counter_under k = pick_cases (λ (e : Option EventStamp). (expiry_stamp e).counter < m) (λ e. h) (λ e. pos)
 
 module _ (b : List ℕ) (p : Bytes b) where
   head_fits : HeadRanges (head_of b) → HeadOk (head_of b)

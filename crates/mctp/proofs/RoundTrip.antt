@@ -8,10 +8,9 @@ use mathlib.Core.List.{List, [], ◌∷◌, ◌++◌}
 use lib.ListN.{length}
 use lib.Dec.{eqb}
 use borrow.Author.Tests.{le-ltb}
+use Rattle.std.specs.Prelude.{Option, Some}
 use Rattle.octets.specs.Pick.{pick}
 use Rattle.mctp.specs.declared.Header.{Header}
-use Rattle.mctp.specs.declared.HeaderRead.{HeaderRead}
-use Rattle.mctp.specs.declared.HeaderRead.TheVariants.{Good}
 use Rattle.mctp.specs.declared.MsgType.{MsgType}
 use Rattle.mctp.specs.declared.MsgIC.{MsgIC}
 use Rattle.mctp.specs.Header.{header_of, header_bytes, fields_of, flags_of, bit, type_byte, type_of}
@@ -72,9 +71,9 @@ module _ (h : Header) (number : h.seq < 4) (tag : h.key.tag.0 < 8) where
         seq = seq i;
       }
 
-  pub read_back : (rest : List ℕ) → header_of (header_bytes h ++ rest) ≡ Good h
+  pub read_back : (rest : List ℕ) → header_of (header_bytes h ++ rest) ≡ Some h
   unfolding header_of pick
-  read_back rest = rw (le-ltb (length (header_bytes h ++ rest)) 4 (omega arith)) (ap {B = HeaderRead} Good fields_back)
+  read_back rest = rw (le-ltb (length (header_bytes h ++ rest)) 4 (omega arith)) (ap {B = Option Header} Some fields_back)
 
 pub type_back : (typ : MsgType) (ic : MsgIC) → typ.0 < 128 → type_of (type_byte typ ic) ≡ record { typ = typ; ic = ic }
 type_back typ ic small =

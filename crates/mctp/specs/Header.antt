@@ -1,14 +1,12 @@
 -- The packet on the wire (DSP0236, docs/RULES.md 9): byte 0 reserved bits and version 1, byte 1 destination, byte 2 source,
 -- byte 3 SOM, EOM, sequence, TO and tag; with SOM byte 4 holds IC and type. Reserved bits are encoded as 0 and ignored when read.
 -- Leans on `pick` alone.
-use Rattle.std.specs.Prelude.{ℕ, ◌+◌, ◌*◌, ◌/◌, ◌%◌, ◌<◌, List, [], ◌∷◌, Bool, true, false, length, get_or, ltb, eqb}
+use Rattle.std.specs.Prelude.{ℕ, ◌+◌, ◌*◌, ◌/◌, ◌%◌, ◌<◌, List, [], ◌∷◌, Bool, true, false, length, get_or, ltb, eqb, None, Option, Some}
 use Rattle.octets.specs.Pick.{pick}
 use Rattle.mctp.specs.declared.MsgType.{MsgType}
 use Rattle.mctp.specs.declared.MsgIC.{MsgIC}
 use Rattle.mctp.specs.declared.TypeIC.{TypeIC}
 use Rattle.mctp.specs.declared.Header.{Header}
-use Rattle.mctp.specs.declared.HeaderRead.{HeaderRead}
-use Rattle.mctp.specs.declared.HeaderRead.TheVariants.{Good, Bad}
 
 -- what bytes 1, 2 and 3 of a header say
 abbrev pub fields_of : ℕ → ℕ → ℕ → Header
@@ -20,8 +18,8 @@ fields_of d s f = record {
 }
 
 -- the header of a packet: bad under 4 bytes, or with a version that is not 1
-unfoldable pub header_of : List ℕ → HeaderRead
-header_of p = pick (ltb (length p) 4) Bad (pick (eqb (get_or p 0 0 % 16) 1) (Good (fields_of (get_or p 1 0) (get_or p 2 0) (get_or p 3 0))) Bad)
+unfoldable pub header_of : List ℕ → Option Header
+header_of p = pick (ltb (length p) 4) None (pick (eqb (get_or p 0 0 % 16) 1) (Some (fields_of (get_or p 1 0) (get_or p 2 0) (get_or p 3 0))) None)
 
 -- n where the bit is set, else 0
 abbrev pub bit : Bool → ℕ → ℕ

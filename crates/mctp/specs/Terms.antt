@@ -1,19 +1,16 @@
 -- The terms of docs/RULES.md, section 1: EIDs, tags, keys, cookies, and the numbers of the refusals.
 -- Two keys are the same where `same_key` says so.
 -- Leans on `pick` alone.
-use Rattle.std.specs.Prelude.{ℕ, Bool, true, false, not, ltb, eqb}
+use Rattle.std.specs.Prelude.{ℕ, Bool, true, false, not, ltb, eqb, Err, None, Ok, Option, Result, Some}
 use Rattle.octets.specs.Pick.{pick}
 use Rattle.mctp.specs.declared.Eid.{Eid}
-use Rattle.mctp.specs.declared.EidRead.{EidRead}
-use Rattle.mctp.specs.declared.EidRead.TheVariants.{Normal, Refused}
 use Rattle.mctp.specs.declared.TagValue.{TagValue}
 use Rattle.mctp.specs.declared.Tag.{Tag}
 use Rattle.mctp.specs.declared.Tag.TheVariants.{Owned, Unowned}
 use Rattle.mctp.specs.declared.Error.{Error}
 use Rattle.mctp.specs.declared.Error.TheVariants.{InvalidInput, NoSpace, BadArgument, TagUnavailable, Unreachable, PoolShort}
 use Rattle.mctp.specs.declared.Key.{Key}
-use Rattle.mctp.specs.declared.Cookie.{Cookie}
-use Rattle.mctp.specs.declared.Cookie.TheVariants.{Absent, Given}
+use Rattle.mctp.specs.declared.AppCookie.{AppCookie}
 
 -- each refusal's number (rule 13)
 abbrev pub error_no : Error → ℕ
@@ -35,8 +32,8 @@ abbrev pub same_eid : Eid → Eid → Bool
 same_eid a b = eqb a.0 b.0
 
 -- 8 to 254 is a normal EID; any other number is InvalidInput
-unfoldable pub normal_eid : ℕ → EidRead
-normal_eid n = pick (ltb n 8) (Refused InvalidInput) (pick (ltb 254 n) (Refused InvalidInput) (Normal (record { 0 = n })))
+unfoldable pub normal_eid : ℕ → Result Eid Error
+normal_eid n = pick (ltb n 8) (Err InvalidInput) (pick (ltb 254 n) (Err InvalidInput) (Ok (record { 0 = n })))
 
 abbrev pub tag_of : Tag → TagValue
 tag_of (Owned t) = t
@@ -69,13 +66,13 @@ abbrev pub key_under : Eid → Eid → Tag → Key
 key_under source dest tag = record { source = source; dest = dest; owner = is_owner tag; tag = tag_of tag }
 
 -- a cookie that may be absent, as two numbers
-abbrev pub cookie_no : Cookie → ℕ
-cookie_no Absent = 0
-cookie_no (Given c) = 1
+abbrev pub cookie_no : Option AppCookie → ℕ
+cookie_no None = 0
+cookie_no (Some c) = 1
 
-abbrev pub cookie_value : Cookie → ℕ
-cookie_value Absent = 0
-cookie_value (Given c) = c.0
+abbrev pub cookie_value : Option AppCookie → ℕ
+cookie_value None = 0
+cookie_value (Some c) = c.0
 
-unfoldable pub cookie_of : ℕ → ℕ → Cookie
-cookie_of n value = pick (eqb n 1) (Given (record { 0 = value })) Absent
+unfoldable pub cookie_of : ℕ → ℕ → Option AppCookie
+cookie_of n value = pick (eqb n 1) (Some (record { 0 = value })) None

@@ -31,13 +31,6 @@ pub enum Tag {
     Unowned(TagValue),
 }
 
-// A cookie that may be absent.
-#[derive(Clone, Copy)]
-pub enum Cookie {
-    Absent,
-    Given(AppCookie),
-}
-
 // The refusals (docs/RULES.md 13); `number` gives each its number.
 #[derive(Clone, Copy)]
 pub enum Error {
@@ -67,18 +60,6 @@ pub struct Header {
 }
 
 #[derive(Clone, Copy)]
-pub enum HeaderRead {
-    Good(Header),
-    Bad,
-}
-
-#[derive(Clone, Copy)]
-pub enum EidRead {
-    Normal(Eid),
-    Refused(Error),
-}
-
-#[derive(Clone, Copy)]
 pub struct TypeIC {
     pub typ: MsgType,
     pub ic: MsgIC,
@@ -92,16 +73,16 @@ impl Eid {
     pub const ANY: Eid = Eid(255);
 
     // An EID that an endpoint can have as its own: 8 to 254.
-    pub fn new_normal(eid: u8) -> EidRead
+    pub fn new_normal(eid: u8) -> Result<Eid, Error>
         ensures { result ≡ normal_eid eid }
     {
         if eid < 8 {
-            return EidRead::Refused(Error::InvalidInput);
+            return Err(Error::InvalidInput);
         }
         if 254 < eid {
-            return EidRead::Refused(Error::InvalidInput);
+            return Err(Error::InvalidInput);
         }
-        EidRead::Normal(Eid(eid))
+        Ok(Eid(eid))
     }
 }
 
@@ -134,34 +115,32 @@ impl Tag {
     }
 }
 
-// A cookie as two numbers: whether it is there, and its value.
-impl Cookie {
-    pub fn present(self) -> u8
-        ensures { (result ≡ cookie_no self) × (result < 2) }
-    {
-        match self {
-            Cookie::Absent => 0,
-            Cookie::Given(_) => 1,
-        }
+// A cookie that may be absent, as two numbers: whether it is there, and its value.
+pub fn cookie_no(c: Option<AppCookie>) -> u8
+    ensures { (result ≡ cookie_no c) × (result < 2) }
+{
+    match c {
+        None => 0,
+        Some(_) => 1,
     }
+}
 
-    pub fn value(self) -> u64
-        ensures { result ≡ cookie_value self }
-    {
-        match self {
-            Cookie::Absent => 0,
-            Cookie::Given(c) => c.0,
-        }
+pub fn cookie_value(c: Option<AppCookie>) -> u64
+    ensures { result ≡ cookie_value c }
+{
+    match c {
+        None => 0,
+        Some(c) => c.0,
     }
+}
 
-    pub fn of(present: u8, value: u64) -> Cookie
-        ensures { result ≡ cookie_of present value }
-    {
-        if present == 1 {
-            return Cookie::Given(AppCookie(value));
-        }
-        Cookie::Absent
+pub fn cookie_of(present: u8, value: u64) -> Option<AppCookie>
+    ensures { result ≡ cookie_of present value }
+{
+    if present == 1 {
+        return Some(AppCookie(value));
     }
+    None
 }
 
 impl Error {
@@ -199,14 +178,14 @@ pub fn bit_of(set: bool, n: u8) -> u8
 }
 
 // The header of a packet; it is bad when the packet has under 4 bytes or another version.
-pub fn read_header(packet: &[u8]) -> HeaderRead
+pub fn read_header(packet: &[u8]) -> Option<Header>
     ensures { result ≡ header_of packet.now }
 {
     if packet.len() < HEADER_LEN {
-        return HeaderRead::Bad;
+        return None;
     }
     if packet[0] % 16 != 1 {
-        return HeaderRead::Bad;
+        return None;
     }
     let dest = Eid(packet[1]);
     let source = Eid(packet[2]);
@@ -218,7 +197,7 @@ pub fn read_header(packet: &[u8]) -> HeaderRead
         owner: b / 8 % 2 == 1,
         tag: tag,
     };
-    HeaderRead::Good(Header {
+    Some(Header {
         key: key,
         som: b / 128 == 1,
         eom: b / 64 % 2 == 1,

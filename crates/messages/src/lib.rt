@@ -9,7 +9,7 @@ ghost use Rattle.octets.specs.Bytes.{over, part};
 ghost use Rattle.messages.specs.Message.{body_of, message_of, front_of};
 
 use handles::Message;
-use mctp::{Cookie, Eid, MsgIC, MsgType, Tag};
+use mctp::{Eid, MsgIC, MsgType, Tag, AppCookie};
 
 #[derive(Clone, Copy)]
 pub struct MctpMessage<'a> {
@@ -18,7 +18,7 @@ pub struct MctpMessage<'a> {
     pub tag: Tag,
     pub typ: MsgType,
     pub ic: MsgIC,
-    pub cookie: Cookie,
+    pub cookie: Option<AppCookie>,
     pub payload: &'a [u8],
 }
 

@@ -8,6 +8,7 @@ use mathlib.Core.List.{List, [], ◌∷◌, ◌++◌}
 use lib.Dec.{eqb}
 use lib.ListN.{length, take}
 use borrow.Author.Tests.{ltb-false, ne_eqb}
+use Rattle.std.specs.Prelude.{Err, None, Ok, Option, Result, Some}
 use Rattle.octets.specs.Pick.{pick, pick_cases}
 use Rattle.octets.specs.Bytes.{part, over}
 use Rattle.octets.proofs.Part.{part_same}
@@ -21,8 +22,6 @@ use Rattle.mctp.specs.Answer.{answer_no, row_after}
 use Rattle.mctp.specs.Header.{lead}
 use Rattle.mctp.proofs.Answers.{error_some}
 use Rattle.fragment.specs.declared.Fragmenter.{Fragmenter}
-use Rattle.fragment.specs.declared.Started.{Started}
-use Rattle.fragment.specs.declared.Started.TheVariants.{Sends as Starts, Refused}
 use Rattle.fragment.specs.Step.{Step, Sound, step_of, new_of, fresh, refused, emitted, fitting, ends, packet_for, advanced_by, next_of}
 use Rattle.fragment.specs.Answers.{words_of, started_as, output_as}
 use Rattle.fragment.specs.Cutting.{Carries}
@@ -31,11 +30,7 @@ use Rattle.fragment.proofs.Steps.{finished}
 use Rattle.fragment.proofs.Cuts.{new_is, step_sound, lead_most, packet_size, cuts}
 use Rattle.state.specs.Stack.{Stack, stack_of, Kept}
 use Rattle.state.proofs.StackLaws.{head_ok}
-use Rattle.sending.specs.declared.UnderTag.{UnderTag}
-use Rattle.sending.specs.declared.UnderTag.TheVariants.{Under, Refused as Untagged}
 use Rattle.sending.specs.declared.Send.{Send}
-use Rattle.sending.specs.declared.SendTag.{SendTag}
-use Rattle.sending.specs.declared.SendTag.TheVariants.{Fresh, Owned, Unowned}
 use Rattle.sending.specs.Sends.{Sent, owned_tag, tag_for, send_as, send_tagged, start_send_of}
 use Rattle.promises.specs.Calls.{start_send}
 use Rattle.rows.specs.Words.{advanced_row, fragmenter_of, send_of}
@@ -45,6 +40,8 @@ use Rattle.board.specs.Board.{board}
 use Rattle.performing.specs.Perform.{Performs, tells}
 use Rattle.performing.specs.Trace.{Deed, Done}
 use Rattle.performing.specs.Cuts.{Cut, Cuts, CutRun, packet_in, cut_packets, AllSent, step_in}
+use Rattle.mctp.specs.declared.Tag.TheVariants.{Owned}
+use Rattle.mctp.specs.declared.Tag.TheVariants.{Unowned}
 
 -- ---- a send that starts
 
@@ -53,35 +50,35 @@ record New (q : Send) (own : Eid) (f : Fragmenter) : Type 0 where
   tag : Tag
   mtu : ℕ
   seq : ℕ
-  new : new_of q.typ own q.dest tag mtu q.cookie q.ic seq ≡ Starts f
+  new : new_of q.typ own q.dest tag mtu q.cookie q.ic seq ≡ Ok f
 
 module _ (q : Send) (f : Fragmenter) where
-  unstarted : {own : Eid} {err : Error} → Refused err ≡ Starts f → New q own f
+  unstarted : {own : Eid} {err : Error} → Err err ≡ Ok f → New q own f
   unstarted e = let z : ◌≡◌ {A = ℕ} 0 1 = cc in absurd (omega arith)
 
-  as_new : (c : UnderTag) (st : Stack) → (send_as q c st).said ≡ Starts f → New q st.head.own_eid f
+  as_new : (c : Result Tag Error) (st : Stack) → (send_as q c st).said ≡ Ok f → New q st.head.own_eid f
   unfolding send_as
-  as_new (Under tag) st e = record { tag = tag; mtu = _; seq = _; new = e }
-  as_new (Untagged err) st e = unstarted e
+  as_new (Ok tag) st e = record { tag = tag; mtu = _; seq = _; new = e }
+  as_new (Err err) st e = unstarted e
 
   -- a flow changes no own EID
-  tag_own : (tag : SendTag) (st : Stack) → (tag_for q.dest tag q.expires q.cookie st).stack.head.own_eid ≡ st.head.own_eid
+  tag_own : (tag : Option Tag) (st : Stack) → (tag_for q.dest tag q.expires q.cookie st).stack.head.own_eid ≡ st.head.own_eid
   unfolding tag_for owned_tag
-  tag_own Fresh st = refl
-  tag_own (Owned tag) st = refl
-  tag_own (Unowned tag) st = refl
+  tag_own None st = refl
+  tag_own (Some (Owned tag)) st = refl
+  tag_own (Some (Unowned tag)) st = refl
 
-  tagged_new : (st : Stack) → (send_tagged q (tag_for q.dest q.tag q.expires q.cookie st)).said ≡ Starts f → New q st.head.own_eid f
+  tagged_new : (st : Stack) → (send_tagged q (tag_for q.dest q.tag q.expires q.cookie st)).said ≡ Ok f → New q st.head.own_eid f
   tagged_new st e =
       let t = tag_for q.dest q.tag q.expires q.cookie st in
       subst (λ (own : Eid). New q own f) (tag_own q.tag st) (as_new t.said t.stack e)
 
-  started_new : (st : Stack) → (start_send_of q st).said ≡ Starts f → New q st.head.own_eid f
+  started_new : (st : Stack) → (start_send_of q st).said ≡ Ok f → New q st.head.own_eid f
   unfolding start_send_of
   started_new st = pick_cases P (λ _. unstarted) (λ _. pick_cases P (λ _. unstarted) (λ _. tagged_new st))
     where
       P : Sent → Type 0
-      P s = s.said ≡ Starts f → New q st.head.own_eid f
+      P s = s.said ≡ Ok f → New q st.head.own_eid f
 
 -- ---- the row
 
@@ -226,10 +223,10 @@ module _ (q : Send) (st : Stack) (payload : List ℕ) (cs : List Cut) where
       subst CarryAs (i.same ∙ sym e.0) c
 
   -- what the start said decides
-  start_carries : (s : Started) (old : List ℕ) → st.head.own_eid.0 < 256 → q.dest.0 < 256 → (start_send_of q st).said ≡ s → answer_no (started_as s) ≡ 0
+  start_carries : (s : Result Fragmenter Error) (old : List ℕ) → st.head.own_eid.0 < 256 → q.dest.0 < 256 → (start_send_of q st).said ≡ s → answer_no (started_as s) ≡ 0
       → CutRun cs (row_after 13 (started_as s) old) payload → AllSent cs → CarryAs (fragmenter_of (row_after 13 (started_as s) old))
-  start_carries (Starts f) old own dest e z run all = new_carries f own dest (started_new q f st e) run all
-  start_carries (Refused err) old own dest e z run all = absurd (error_some err z)
+  start_carries (Ok f) old own dest e z run all = new_carries f own dest (started_new q f st e) run all
+  start_carries (Err err) old own dest e z run all = absurd (error_some err z)
 
 -- the key of the message that the send w started: the own EID, the destination of the send, and the tag in the row that the start left
 abbrev pub sent_key : List ℕ → List ℕ → Deed → Key

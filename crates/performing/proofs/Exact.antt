@@ -5,8 +5,8 @@ use mathlib.Core.Bool.{true, false}
 use mathlib.Core.List.{List, [], ◌∷◌}
 use lib.ListN.{length}
 use borrow.Author.Tests.{le-ltb}
+use Rattle.std.specs.Prelude.{Err, None, Ok, Option, Result, Some}
 use Rattle.octets.specs.Pick.{pick}
-use Rattle.mctp.specs.declared.Cookie.{Cookie}
 use Rattle.mctp.specs.declared.Error.TheVariants.{BadArgument}
 use Rattle.mctp.specs.Answer.{gives, answer_no, row_after}
 use Rattle.mctp.proofs.Answers.{error_some}
@@ -16,12 +16,8 @@ use Rattle.slot.specs.declared.Reassembler.{Reassembler}
 use Rattle.state.specs.Stack.{stack_of, Kept, Becomes}
 use Rattle.state.proofs.StackLaws.{slots_length}
 use Rattle.slot.specs.declared.ReceiveHandle.{ReceiveHandle}
-use Rattle.receiving.specs.declared.Received.{Received}
-use Rattle.receiving.specs.declared.Received.TheVariants.{More, Message as Whole, Refused}
 use Rattle.slot.specs.Handle.{handle_words}
 use Rattle.receiving.specs.Conclude.{received_as}
-use Rattle.handles.specs.declared.Fetched.{Fetched}
-use Rattle.handles.specs.declared.Fetched.TheVariants.{Refused as Unfetched}
 use Rattle.handles.specs.Handles.{is_good, handled, done_as, fetched_as, fetch_of}
 use Rattle.promises.specs.Calls.{World, receive, fetch_message, finished_receive, return_handle, set_cookie, step, steps, receipt, performed}
 use Rattle.promises.specs.Delivery.{Hands, message_at, all_of}
@@ -35,13 +31,16 @@ use Rattle.performing.specs.Perform.{Performs, tells}
 use Rattle.performing.specs.Trace.{Deed, Done, Trace, last_bytes, last_pool, all_calls, HandsOut}
 use Rattle.performing.proofs.Traced.{world, Stands, as_world, traced}
 use Rattle.performing.proofs.Handed.{heard, last_out}
+use Rattle.mctp.specs.declared.AppCookie.{AppCookie}
+use Rattle.mctp.specs.declared.Error.{Error}
+use Rattle.handles.specs.declared.Message.{Message}
 
 -- where the answer is 0 and the row's number is not 0, that handle was told
-as_handle : (r : Received) (old : List ℕ) (h : ReceiveHandle) → answer_no (received_as r) ≡ 0 → row_after 2 (received_as r) old ≡ handle_words h → (h.issue ≡ 0 → ⊥)
+as_handle : (r : Result (Option ReceiveHandle) Error) (old : List ℕ) (h : ReceiveHandle) → answer_no (received_as r) ≡ 0 → row_after 2 (received_as r) old ≡ handle_words h → (h.issue ≡ 0 → ⊥)
     → received_as r ≡ gives (handle_words h)
-as_handle More old h z e n = absurd (n (cc))
-as_handle (Whole k) old h z e n = ap gives e
-as_handle (Refused err) old h z e n = absurd (error_some err z)
+as_handle (Ok None) old h z e n = absurd (n (cc))
+as_handle (Ok (Some k)) old h z e n = ap gives e
+as_handle (Err err) old h z e n = absurd (error_some err z)
 
 module _ (b p : List ℕ) (k : Kept board b) (ds : List Deed) (t : Trace ds b p) where
   -- the world after those calls
@@ -104,7 +103,7 @@ module _ (h : ReceiveHandle) (d : Deed) (b : List ℕ) (e : is_good h (stack_of 
       let g : Performs (return_handle h ∷ []) b d.after d.lent d.left d.said = rw o at done in
       (g.said ∙ no_good (with_state Waiting), rw e at g.stack)
 
-  pub cookie_stale : (cookie : Cookie) → d.calls ≡ set_cookie h cookie ∷ [] → Rejected d b
+  pub cookie_stale : (cookie : Option AppCookie) → d.calls ≡ set_cookie h cookie ∷ [] → Rejected d b
   unfolding tells steps step handled pick
   cookie_stale cookie o =
       let g : Performs (set_cookie h cookie ∷ []) b d.after d.lent d.left d.said = rw o at done in
@@ -115,5 +114,5 @@ module _ (h : ReceiveHandle) (d : Deed) (b : List ℕ) (e : is_good h (stack_of 
   unfolding tells steps step fetch_of pick
   fetch_stale n long o =
       let g : Performs (fetch_message h n ∷ []) b d.after d.lent d.left d.said = rw o at done in
-      let f : fetch_of 1032 h (stack_of board b) n ≡ Unfetched BadArgument = rw (slots_length board b, le-ltb n 4128 long, e) in
-      ((g.said ∙ ap (λ (y : Fetched). answer_no (fetched_as y)) f, g.stack), g.message ∙ ap (λ (y : Fetched). row_after 10 (fetched_as y) d.lent.message) f)
+      let f : fetch_of 1032 h (stack_of board b) n ≡ Err BadArgument = rw (slots_length board b, le-ltb n 4128 long, e) in
+      ((g.said ∙ ap (λ (y : Result Message Error). answer_no (fetched_as y)) f, g.stack), g.message ∙ ap (λ (y : Result Message Error). row_after 10 (fetched_as y) d.lent.message) f)

@@ -4,6 +4,7 @@ use native.Mathlib.Omega.{arith}
 use mathlib.Core.Path.{◌≡◌, refl, sym, ap, subst, ◌∙◌}
 use mathlib.Core.List.{List, [], ◌∷◌}
 use lib.ListN.{length}
+use Rattle.std.specs.Prelude.{Err, None, Ok, Option, Result, Some}
 use Rattle.mctp.specs.declared.Key.{Key}
 use Rattle.mctp.specs.declared.MsgType.{MsgType}
 use Rattle.mctp.specs.declared.MsgIC.{MsgIC}
@@ -12,10 +13,7 @@ use Rattle.mctp.proofs.Answers.{error_some}
 use Rattle.state.specs.Stack.{stack_of, Kept}
 use Rattle.state.proofs.StackLaws.{slot_ok}
 use Rattle.slot.specs.declared.ReceiveHandle.{ReceiveHandle}
-use Rattle.receiving.specs.declared.Received.{Received}
-use Rattle.receiving.specs.declared.Received.TheVariants.{More, Message as Whole, Refused}
 use Rattle.receiving.specs.Conclude.{received_as}
-use Rattle.handles.specs.declared.Fetched.{Fetched}
 use Rattle.handles.specs.Handles.{fetched_as}
 use Rattle.promises.specs.Calls.{World, receive, fetch_message, step, steps, receipt}
 use Rattle.promises.specs.Delivery.{Message, Hands, Delivers, cookie_for, Lawful}
@@ -28,6 +26,7 @@ use Rattle.board.specs.Board.{board}
 use Rattle.performing.specs.Perform.{Performs, tells}
 use Rattle.performing.specs.Trace.{Deed, Done, Trace, last_bytes, last_pool, all_calls, Fed, packets_of, gaps_of, Feeds, Gives, HandsOut, Answers}
 use Rattle.performing.proofs.Traced.{world, Stands, as_world, traced}
+use Rattle.mctp.specs.declared.Error.{Error}
 
 -- ---- a receive that was performed
 
@@ -44,10 +43,10 @@ heard q d b p o h e =
     subst (λ (x : List ℕ). Heard q d b x) e (record { said = g.said; handle = g.handle; stands = record { stack = g.stack; pool = g.pool } })
 
 -- an answer that says "more" in numbers is "more"
-as_more : (r : Received) → received_as r ≡ gives [] → r ≡ More
-as_more More e = refl
-as_more (Whole h) e = let z : ◌≡◌ {A = ℕ} 2 0 = ap (λ (a : Answer). length (answer_values a)) e in absurd (omega arith)
-as_more (Refused err) e = absurd (error_some err (ap answer_no e))
+as_more : (r : Result (Option ReceiveHandle) Error) → received_as r ≡ gives [] → r ≡ Ok None
+as_more (Ok None) e = refl
+as_more (Ok (Some h)) e = let z : ◌≡◌ {A = ℕ} 2 0 = ap (λ (a : Answer). length (answer_values a)) e in absurd (omega arith)
+as_more (Err err) e = absurd (error_some err (ap answer_no e))
 
 -- after a receive and any calls performed, bytes and pool hold what the model's steps make
 pub then_world : (q : List ℕ) (d : Deed) (b p : List ℕ) (ds : List Deed) → Heard q d b p → Trace ds d.after d.left.pool
@@ -71,8 +70,8 @@ gives_from m h b p e k f o done =
     let g : Performs (fetch_message h (length p) ∷ []) b e.after e.lent e.left e.said = rw o at done in
     record {
       facts = f.facts;
-      said = g.said ∙ ap (λ (y : Fetched). answer_no (fetched_as y)) f.fetched;
-      told = g.message ∙ ap (λ (y : Fetched). row_after 10 (fetched_as y) e.lent.message) f.fetched;
+      said = g.said ∙ ap (λ (y : Result Message Error). answer_no (fetched_as y)) f.fetched;
+      told = g.message ∙ ap (λ (y : Result Message Error). row_after 10 (fetched_as y) e.lent.message) f.fetched;
       inside = fetch_inside 1032 h (stack_of board b) (length p) f.facts f.fetched (slot_ok board b k h.index).len;
       message = f.message;
     }
@@ -83,8 +82,8 @@ last_out m q d b p h x =
     let t = as_told (receipt 1032 q (world b p)).said x.handle x.told in
     record {
       handle = x.handle;
-      said = h.said ∙ ap (λ (r : Received). answer_no (received_as r)) t;
-      told = h.handle ∙ ap (λ (r : Received). row_after 2 (received_as r) d.lent.handle) t;
+      said = h.said ∙ ap (λ (r : Result (Option ReceiveHandle) Error). answer_no (received_as r)) t;
+      told = h.handle ∙ ap (λ (r : Result (Option ReceiveHandle) Error). row_after 2 (received_as r) d.lent.handle) t;
       number = told_some 1032 (stack_of board b) (length p) q x.handle t;
       fetched = λ ds trace ok e o done.
           let w = then_world q d b p ds h trace in
@@ -103,9 +102,9 @@ answers_from m (f ∷ g ∷ fs) b p k z d =
     let b₂ = last_bytes f.gap f.deed.after in
     let p₂ = last_pool f.gap f.deed.left.pool in
     let e = then_world f.packet f.deed b p f.gap h z.1.1.1.0 in (
-      h.said ∙ ap (λ (r : Received). answer_no (received_as r)) t,
+      h.said ∙ ap (λ (r : Result (Option ReceiveHandle) Error). answer_no (received_as r)) t,
       (
-        h.handle ∙ ap (λ (r : Received). row_after 2 (received_as r) f.deed.lent.handle) t,
+        h.handle ∙ ap (λ (r : Result (Option ReceiveHandle) Error). row_after 2 (received_as r) f.deed.lent.handle) t,
         answers_from m (g ∷ fs) b₂ p₂ e.0 z.1.1.1.1
             (subst (λ (w : World). Delivers 1032 m (packets_of (g ∷ fs)) (gaps_of (g ∷ fs)) w) (sym e.1) d.1),
       ),

@@ -6,19 +6,17 @@ use mathlib.Core.Bool.{true, false}
 use mathlib.Core.List.{List, [], ◌∷◌}
 use lib.Dec.{lit≤}
 use lib.ListN.{length}
+use Rattle.std.specs.Prelude.{None, Ok, Result}
 use Rattle.octets.specs.Pick.{pick}
 use Rattle.octets.specs.Find.{find}
 use Rattle.octets.specs.Bytes.{over, part}
 use Rattle.mctp.specs.declared.Key.{Key}
-use Rattle.mctp.specs.declared.Cookie.TheVariants.{Absent}
 use Rattle.mctp.specs.Terms.{key_under, tag_under, same_key, same_bool, same_eid, any_eid}
 use Rattle.mctp.specs.Answer.{answer_no, row_after}
 use Rattle.stamp.specs.Stamp.{next}
 use Rattle.flows.specs.Tags.{bits_of, free_tag_of}
 use Rattle.flows.specs.Table.{is_flow, new_flow, insert_flow, with_tag, fresh_flow, set_flow}
 use Rattle.reassemble.specs.Enter.{is_local}
-use Rattle.fragment.specs.declared.Started.{Started}
-use Rattle.fragment.specs.declared.Started.TheVariants.{Sends as Starts}
 use Rattle.fragment.specs.Step.{new_of, step_of}
 use Rattle.fragment.specs.Answers.{started_as}
 use Rattle.state.specs.Stack.{Stack, stack_of, Becomes}
@@ -33,6 +31,8 @@ use Rattle.performing.specs.Trace.{Deed, Done, Fed, packets_of, gaps_of, Feeds, 
 use Rattle.performing.specs.Cuts.{Cut, CutRun, cut_packets, AllSent}
 use Rattle.performing.proofs.CutRuns.{sent_key}
 use Rattle.performing.proofs.Joined.{joined_by_calls}
+use Rattle.mctp.specs.declared.Error.{Error}
+use Rattle.fragment.specs.declared.Fragmenter.{Fragmenter}
 
 -- EID 9, which sends with an MTU of 6, and EID 8
 abbrev nine : Stack
@@ -102,7 +102,7 @@ cutting_packets = refl
 
 -- ---- the start
 
-started : (start_send_of (send_of query) nine).said ≡ Starts (fragmenter_of begun)
+started : (start_send_of (send_of query) nine).said ≡ Ok (fragmenter_of begun)
 unfolding start_send_of send_as tag_for owned_tag set_flow fresh_flow with_tag insert_flow new_flow free_tag_of bits_of is_flow find next new_of pick cookie_from send_tag_from send_mtu_from tag_under
 started = refl
 
@@ -111,9 +111,9 @@ begins : (b : List ℕ) (d : Deed) → stack_of board b ≡ nine → d.calls ≡
 unfolding tells pick cookie_from tag_under
 begins b d e o done =
     let g : Performs (start_send (send_of query) ∷ []) b d.after d.lent d.left d.said = rw o at done in
-    let s : (start_send_of (send_of query) (stack_of board b)).said ≡ Starts (fragmenter_of begun) = ap (λ (st : Stack). (start_send_of (send_of query) st).said) e ∙ started in (
-      g.said ∙ ap (λ (r : Started). answer_no (started_as r)) s,
-      g.fragmenter ∙ ap (λ (r : Started). row_after 13 (started_as r) d.lent.fragmenter) s,
+    let s : (start_send_of (send_of query) (stack_of board b)).said ≡ Ok (fragmenter_of begun) = ap (λ (st : Stack). (start_send_of (send_of query) st).said) e ∙ started in (
+      g.said ∙ ap (λ (r : Result Fragmenter Error). answer_no (started_as r)) s,
+      g.fragmenter ∙ ap (λ (r : Result Fragmenter Error). row_after 13 (started_as r) d.lent.fragmenter) s,
     )
 
 -- ---- end to end
@@ -122,7 +122,7 @@ module _ (x y b₁ b₂ p : List ℕ) (from : Becomes board x b₁ nine) (to : B
   -- EID 9 starts that send and cuts it so, and EID 8 receives the packets, with permitted calls between: the body is handed out
   pub joined_met : (d : Deed) → d.calls ≡ start_send (send_of query) ∷ [] → Done d b₁
       → (fs : List Fed) → packets_of fs ≡ packets → Feeds fs b₂ p → all_of (all_of (permitted asks 0)) (gaps_of fs) ≡ true
-      → Answers (record { key = asks; typ = record { 0 = 1 }; ic = record { 0 = false }; body = body; cookie = Absent }) fs
+      → Answers (record { key = asks; typ = record { 0 = 1 }; ic = record { 0 = false }; body = body; cookie = None }) fs
   unfolding is_local find pick same_key same_bool tag_under
   joined_met d o done fs same feeds between =
       let r = begins b₁ d from.view o done in
@@ -130,7 +130,7 @@ module _ (x y b₁ b₂ p : List ℕ) (from : Becomes board x b₁ nine) (to : B
       ap (λ (st : Stack). key_under st.head.own_eid (send_of query).dest (fragmenter_of d.left.fragmenter).tag) from.view
       ∙ ap (λ (w : List ℕ). key_under (record { 0 = 9 }) (send_of query).dest (fragmenter_of w).tag) r.1 in
       let run = subst (λ (w : List ℕ). CutRun cutting w body) (sym r.1) cutting_runs in
-      let cookie : cookie_for (sent_key query b₁ d) (stack_of board b₂) ≡ Absent =
+      let cookie : cookie_for (sent_key query b₁ d) (stack_of board b₂) ≡ None =
       ap (λ (k : Key). cookie_for k (stack_of board b₂)) key ∙ ap (cookie_for asks) to.view in
       subst (λ (m : Message). Answers m fs) (λ i. record { key = key i; typ = record { 0 = 1 }; ic = record { 0 = false }; body = body; cookie = cookie i })
       (joined_by_calls query b₁ d from.kept o done r.0 body cutting run cutting_ends fs (same ∙ sym cutting_packets) b₂ p to.kept feeds (lit≤ tt)

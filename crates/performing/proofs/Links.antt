@@ -5,23 +5,20 @@ use mathlib.Core.Path.{◌≡◌, refl}
 use mathlib.Core.Bool.{Bool, true, false}
 use mathlib.Core.List.{List, [], ◌∷◌}
 use lib.ListN.{length}
+use Rattle.std.specs.Prelude.{Err, None, Option, Some}
 use Rattle.octets.specs.Pick.{pick}
 use Rattle.octets.specs.Bytes.{over}
 use Rattle.mctp.specs.declared.Eid.{Eid}
 use Rattle.mctp.specs.declared.Tag.{Tag}
 use Rattle.mctp.specs.declared.TagValue.{TagValue}
-use Rattle.mctp.specs.declared.Cookie.{Cookie}
 use Rattle.mctp.specs.declared.Error.TheVariants.{InvalidInput}
 use Rattle.mctp.specs.Answer.{answer_no, row_after, flag_word}
-use Rattle.fragment.specs.declared.Started.TheVariants.{Refused as Unstarted}
 use Rattle.fragment.specs.Answers.{started_as}
 use Rattle.state.specs.Stack.{Stack, stack_of, Kept, Becomes}
 use Rattle.state.proofs.StackLaws.{stays}
 use Rattle.slot.specs.declared.ReceiveHandle.{ReceiveHandle}
 use Rattle.receiving.specs.Conclude.{received_as}
 use Rattle.receiving.specs.Receive.{Receipt, receive_of}
-use Rattle.handles.specs.declared.Deferred.{Deferred}
-use Rattle.handles.specs.declared.Deferred.TheVariants.{Found, Nothing}
 use Rattle.handles.specs.Handles.{Handled, done_as, fetched_as, deferred_as, finish_of, return_of, set_cookie_of, fetch_of, by_source_of, by_cookie_of}
 use Rattle.sending.specs.Sends.{Sent, unsent, start_send_of}
 use Rattle.updating.specs.Update.{updated_as, update_of}
@@ -30,6 +27,7 @@ use Rattle.promises.specs.Calls.{receive, elsewhere, update, start_send, cancel_
 use Rattle.rows.specs.Words.{good_send, send_of}
 use Rattle.board.specs.Board.{board, start_of}
 use Rattle.performing.specs.Perform.{Lent, lent, Performs, tells, send_calls}
+use Rattle.mctp.specs.declared.AppCookie.{AppCookie}
 
 -- ---- a number alone is told, and the stack moves
 
@@ -46,7 +44,7 @@ module _ (b b' : List ℕ) (r : ℕ) where
   unfolding steps step tells
   return_link h e l = record { stack = e.1; pool = refl; said = e.0; other = refl; handle = refl; message = refl; fragmenter = refl }
 
-  pub cookie_link : (h : ReceiveHandle) (k : Cookie) → Did (set_cookie_of h k) → (l : Lent) → Performs (set_cookie h k ∷ []) b b' l l r
+  pub cookie_link : (h : ReceiveHandle) (k : Option AppCookie) → Did (set_cookie_of h k) → (l : Lent) → Performs (set_cookie h k ∷ []) b b' l l r
   unfolding steps step tells
   cookie_link h k e l = record { stack = e.1; pool = refl; said = e.0; other = refl; handle = refl; message = refl; fragmenter = refl }
 
@@ -81,9 +79,9 @@ module _ (b : List ℕ) (k : Kept board b) (r : ℕ) (l : Lent) where
 -- ---- what is told goes into a row
 
 -- a lookup never refuses
-found_zero : (d : Deferred) → 0 ≡ answer_no (deferred_as d)
-found_zero (Found h) = refl
-found_zero Nothing = refl
+found_zero : (d : Option ReceiveHandle) → 0 ≡ answer_no (deferred_as d)
+found_zero (Some h) = refl
+found_zero None = refl
 
 module _ (b b' : List ℕ) (n n' : List ℕ) (p o m f : List ℕ) where
   pub update_link : (r t : ℕ)
@@ -131,7 +129,7 @@ module _ (b b' : List ℕ) (r : ℕ) where
   unfolding start_of send_calls pick steps step tells
   send_link w p o n m f f' e = go (good_send w) e
     where
-      go : (t : Bool) → Sent' (pick t (start_send_of (send_of w) (stack_of board b)) (unsent (stack_of board b) (Unstarted InvalidInput))) f f'
+      go : (t : Bool) → Sent' (pick t (start_send_of (send_of w) (stack_of board b)) (unsent (stack_of board b) (Err InvalidInput))) f f'
           → Performs (pick t (start_send (send_of w) ∷ []) []) b b' (lent p o n m f) (lent p o n m f') r
       go true e = record { stack = e.1.0; pool = refl; said = e.0; other = refl; handle = refl; message = refl; fragmenter = e.1.1 }
       go false e = record { stack = e.1.0; pool = refl; said = e.0; other = refl; handle = refl; message = refl; fragmenter = e.1.1 }

@@ -6,29 +6,29 @@ use mathlib.Core.List.{List}
 use lib.Dec.{eqb}
 use lib.ListN.{length}
 use borrow.Author.Tests.{eqb-true, eqb-false}
+use Rattle.std.specs.Prelude.{Err, Ok, Result}
 use Rattle.octets.proofs.Bools.{bool_cases}
 use Rattle.mctp.specs.declared.Eid.{Eid}
 use Rattle.mctp.specs.Answer.{answer_no}
 use Rattle.mctp.proofs.Answers.{error_some}
 use Rattle.slot.specs.Slot.{is_empty}
 use Rattle.state.specs.Stack.{Stack, stack_of, Kept, Becomes}
-use Rattle.handles.specs.declared.Done.{Done}
-use Rattle.handles.specs.declared.Done.TheVariants.{Well, Refused}
 use Rattle.handles.specs.Handles.{done_as}
 use Rattle.estack.specs.Basics.{fresh_stack, new_says, NewMakes}
 use Rattle.promises.specs.Delivery.{all_of}
 use Rattle.board.specs.Board.{board}
 use Rattle.performing.specs.Perform.{Begins}
+use Rattle.mctp.specs.declared.Error.{Error}
 
 module _ (own mtu clock : ℕ) (b b' : List ℕ) where
   -- d is what `new` says
-  made_fresh : (d : Done) → NewMakes d board (record { 0 = own }) mtu clock b b' → answer_no (done_as d) ≡ 0 → Becomes board b b' (fresh_stack board (record { 0 = own }) mtu clock)
-  made_fresh Well m e = m
-  made_fresh (Refused err) m e = absurd (error_some err e)
+  made_fresh : (d : Result (Unit {0}) Error) → NewMakes d board (record { 0 = own }) mtu clock b b' → answer_no (done_as d) ≡ 0 → Becomes board b b' (fresh_stack board (record { 0 = own }) mtu clock)
+  made_fresh (Ok tt) m e = m
+  made_fresh (Err err) m e = absurd (error_some err e)
 
-  left_same : (d : Done) → NewMakes d board (record { 0 = own }) mtu clock b b' → (answer_no (done_as d) ≡ 0 → ⊥) → b' ≡ b
-  left_same Well m n = absurd (n refl)
-  left_same (Refused err) m n = m
+  left_same : (d : Result (Unit {0}) Error) → NewMakes d board (record { 0 = own }) mtu clock b b' → (answer_no (done_as d) ≡ 0 → ⊥) → b' ≡ b
+  left_same (Ok tt) m n = absurd (n refl)
+  left_same (Err err) m n = m
 
   -- what the contract of the exported `new` says
   pub begin_link : (r : ℕ) → r ≡ answer_no (done_as (new_says board (length b) mtu))

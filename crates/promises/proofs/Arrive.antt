@@ -7,23 +7,18 @@ use mathlib.Core.List.{List, ◌++◌}
 use lib.ListN.{length, get_or, set, drop, length-set, length-append, length-drop}
 use lib.Seq.{get_or-set_other, get_or-set_same}
 use borrow.Author.Tests.{le-ltb, lt-ltb}
+use Rattle.std.specs.Prelude.{None, Ok, Option, Result, Some}
 use Rattle.octets.specs.Pick.{pick}
 use Rattle.octets.specs.Bytes.{over}
 use Rattle.mctp.specs.declared.Key.{Key}
 use Rattle.mctp.specs.declared.MsgType.{MsgType}
 use Rattle.mctp.specs.declared.MsgIC.{MsgIC}
-use Rattle.mctp.specs.declared.Cookie.{Cookie}
 use Rattle.mctp.specs.declared.Header.{Header}
-use Rattle.mctp.specs.declared.HeaderRead.{HeaderRead}
-use Rattle.mctp.specs.declared.HeaderRead.TheVariants.{Good}
 use Rattle.mctp.specs.Header.{header_of, lead}
 use Rattle.stamp.specs.declared.EventStamp.{EventStamp}
 use Rattle.stamp.specs.Stamp.{next}
 use Rattle.slot.specs.declared.State.TheVariants.{Collecting}
 use Rattle.slot.specs.declared.Reassembler.{Reassembler}
-use Rattle.reassemble.specs.declared.Gate.TheVariants.{Pass}
-use Rattle.reassemble.specs.declared.Entry.{Entry}
-use Rattle.reassemble.specs.declared.Entry.TheVariants.{Takes}
 use Rattle.slot.specs.Slot.{blank_slot, is_empty, collects}
 use Rattle.slot.specs.Search.{slot_for}
 use Rattle.reassemble.specs.Enter.{enter, append, appended}
@@ -31,7 +26,6 @@ use Rattle.reassemble.proofs.Entries.{append_is}
 use Rattle.fragment.specs.Cutting.{body_in, says_som}
 use Rattle.state.specs.Stack.{Stack, slot_at, ticked}
 use Rattle.slot.specs.declared.ReceiveHandle.{ReceiveHandle}
-use Rattle.receiving.specs.declared.Received.TheVariants.{More}
 use Rattle.slot.specs.Handle.{next_issue}
 use Rattle.receiving.specs.Conclude.{said_of, received_as}
 use Rattle.receiving.specs.Receive.{Receipt, settled, land, counted_opening, gate_of, receive_at, receive_by, receive_of}
@@ -42,27 +36,30 @@ use Rattle.promises.proofs.Pool.{slot_le, body_at, pool_length, body_append}
 use Rattle.promises.proofs.Clock.{next_clock, opening_clock}
 use Rattle.promises.proofs.Outcome.{opening_slots}
 use Rattle.promises.proofs.Fetch.{fetch_is}
+use Rattle.mctp.specs.declared.AppCookie.{AppCookie}
+use Rattle.mctp.specs.declared.Error.{Error}
+use Rattle.reassemble.specs.declared.Intake.{Intake}
 
 -- a slot that has collected n bytes under K
-abbrev pub gathering : Key → MsgType → MsgIC → ℕ → ℕ → EventStamp → Cookie → Reassembler
+abbrev pub gathering : Key → MsgType → MsgIC → ℕ → ℕ → EventStamp → Option AppCookie → Reassembler
 gathering K typ ic number n stamp cookie = record { state = Collecting; key = K; typ = typ; ic = ic; next_seq = number; len = n; cookie = cookie; stamp = stamp }
 
 -- where all the tests pass, a receive is the entry into the slot
 receive_is : (B : ℕ) (st : Stack) (room : ℕ) (p : List ℕ) (h : Header) (j : ℕ) (s : Reassembler)
-    → header_of p ≡ Good h → B * length st.slots ≤ room → slot_for (Good h) st.slots ≡ j → j < length st.slots → gate_of j st h ≡ Pass s
-    → receive_of B st room p ≡ land B j (counted_opening (is_empty (slot_at j st)) st) h p (Pass s)
+    → header_of p ≡ Some h → B * length st.slots ≤ room → slot_for (Some h) st.slots ≡ j → j < length st.slots → gate_of j st h ≡ Ok s
+    → receive_of B st room p ≡ land B j (counted_opening (is_empty (slot_at j st)) st) h p (Ok s)
 unfolding receive_of receive_by receive_at pick
 receive_is B st room p h j s d r q i g = rw (d, q, le-ltb room (B * length st.slots) r, lt-ltb j (length st.slots) i, g)
 
-module _ (B : ℕ) (K : Key) (typ : MsgType) (ic : MsgIC) (cookie : Cookie) (t₀ j : ℕ) where
+module _ (B : ℕ) (K : Key) (typ : MsgType) (ic : MsgIC) (cookie : Option AppCookie) (t₀ j : ℕ) where
   -- what holds before a packet of K is taken, with `bytes` collected already
   pub record Poised (bytes : List ℕ) (h : Header) (p : List ℕ) (w : World) : Type 0 where
-    pub read : header_of p ≡ Good h
-    pub found : slot_for (Good h) w.stack.slots ≡ j
+    pub read : header_of p ≡ Some h
+    pub found : slot_for (Some h) w.stack.slots ≡ j
     pub inside : j < length w.stack.slots
     pub room : B * length w.stack.slots ≤ length w.pool
     pub slot : Reassembler
-    pub gate : gate_of j w.stack h ≡ Pass slot
+    pub gate : gate_of j w.stack h ≡ Ok slot
     pub stamp : EventStamp → EventStamp
     pub since : (now : EventStamp) → now.clock ≡ w.stack.head.now.clock → (stamp now).clock ≡ t₀
     pub enters : (now : EventStamp) (issue : ℕ)
@@ -98,11 +95,11 @@ module _ (B : ℕ) (K : Key) (typ : MsgType) (ic : MsgIC) (cookie : Cookie) (t�
     stored : Reassembler
     stored = appended h.eom now₁ issue₁ (length (body_in p)) base
 
-    entry : ℕ → Entry
-    entry n = Takes (record { slot = appended h.eom now₁ issue₁ n base; at = length bytes; from = lead h.som; whole = h.eom })
+    entry : ℕ → Result Intake Error
+    entry n = Ok (record { slot = appended h.eom now₁ issue₁ n base; at = length bytes; from = lead h.som; whole = h.eom })
 
     chunk : drop (lead h.som) p ≡ body_in p
-    chunk = ap (λ (r : HeaderRead). drop (lead (says_som r)) p) (sym o.read)
+    chunk = ap (λ (r : Option Header). drop (lead (says_som r)) p) (sym o.read)
 
     size : length p - lead h.som ≡ length (body_in p)
     size = sym (length-drop (lead h.som) p) ∙ ap length chunk
@@ -169,7 +166,7 @@ module _ (B : ℕ) (K : Key) (typ : MsgType) (ic : MsgIC) (cookie : Cookie) (t�
         made = slot_after ∙ ap (λ (b : Bool). appended b now₁ issue₁ (length (body_in p)) base) e
 
     -- one before the last is answered "more"
-    pub collects_more : h.eom ≡ false → ((receipt B p w).said ≡ More) × Waiting ((h.seq + 1) % 4) (bytes ++ body_in p) (step B (receive p) w)
+    pub collects_more : h.eom ≡ false → ((receipt B p w).said ≡ Ok None) × Waiting ((h.seq + 1) % 4) (bytes ++ body_in p) (step B (receive p) w)
     unfolding w₁ stored base pick
     collects_more e = (
       said-after ∙ ap (λ (b : Bool). said_of b j issue₁) e,

@@ -7,6 +7,7 @@ use mathlib.Core.List.{List, []}
 use lib.Dec.{ltb}
 use lib.ListN.{length, get_or}
 use borrow.Author.Tests.{ltb-true, ltb-false, le-ltb}
+use Rattle.std.specs.Prelude.{Ok, Option}
 use Rattle.octets.specs.Pick.{pick}
 use Rattle.octets.specs.Find.{find}
 use Rattle.octets.proofs.Finds.{find_hit, find_first}
@@ -14,11 +15,9 @@ use Rattle.octets.specs.Bytes.{part}
 use Rattle.mctp.specs.declared.Key.{Key}
 use Rattle.mctp.specs.declared.MsgType.{MsgType}
 use Rattle.mctp.specs.declared.MsgIC.{MsgIC}
-use Rattle.mctp.specs.declared.Cookie.{Cookie}
 use Rattle.mctp.specs.Header.{type_of}
 use Rattle.flows.specs.Table.{standing, flow_cookie}
 use Rattle.slot.specs.declared.Reassembler.{Reassembler}
-use Rattle.reassemble.specs.declared.Gate.TheVariants.{Pass}
 use Rattle.slot.specs.Slot.{blank_slot, is_empty, empty_state, collects}
 use Rattle.slot.specs.Search.{slot_for}
 use Rattle.reassemble.specs.Enter.{opened, gate_empty, gate, enter, append}
@@ -29,6 +28,7 @@ use Rattle.promises.specs.Delivery.{collecting, vacancy}
 use Rattle.promises.proofs.Slots.{collects_state, collects_key, not_in, find_none}
 use Rattle.promises.proofs.Arrive.{gathering, Poised}
 use Rattle.promises.proofs.Deliver.{headed}
+use Rattle.mctp.specs.declared.AppCookie.{AppCookie}
 
 module _ (B : ℕ) (K : Key) (typ : MsgType) (ic : MsgIC) (mtu number : ℕ) (eom : Bool) (p : List ℕ) (w : World) (is : PacketIs K mtu true eom number p)
     (kind : type_of (get_or p 4 0) ≡ record { typ = typ; ic = ic }) (fits : length (body_in p) ≤ B) (room : B * length w.stack.slots ≤ length w.pool) where
@@ -75,9 +75,9 @@ module _ (B : ℕ) (K : Key) (typ : MsgType) (ic : MsgIC) (mtu number : ℕ) (eo
       col = find_hit (collects K) w.stack.slots blank_slot inn
 
   -- the first fragment comes to a free slot, and passes the gate with the cookie c
-  pub fresh_poised : collecting K w.stack ≡ false → vacancy w.stack ≡ true → (c : Cookie)
+  pub fresh_poised : collecting K w.stack ≡ false → vacancy w.stack ≡ true → (c : Option AppCookie)
       → gate_empty w.stack.head.own_eid (headed K true eom number) (standing K.source K.tag w.stack.flows) (flow_cookie K.source K.tag w.stack.flows)
-      ≡ Pass (opened (headed K true eom number) c)
+      ≡ Ok (opened (headed K true eom number) c)
       → Poised B K typ ic c w.stack.head.now.clock (find is_empty w.stack.slots) [] (headed K true eom number) p w
   unfolding slot_for gate enter pick part
   fresh_poised e f c g = record {

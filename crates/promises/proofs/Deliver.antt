@@ -6,12 +6,12 @@ use mathlib.Core.Bool.{Bool, true, false}
 use mathlib.Core.List.{List, [], ◌∷◌, ◌++◌, append-nil, append_assoc}
 use lib.ListN.{length, length-append}
 use borrow.Author.Tests.{lt-ltb}
+use Rattle.std.specs.Prelude.{Option}
 use Rattle.octets.specs.Pick.{pick}
 use Rattle.octets.specs.Find.{find}
 use Rattle.mctp.specs.declared.Key.{Key}
 use Rattle.mctp.specs.declared.MsgType.{MsgType}
 use Rattle.mctp.specs.declared.MsgIC.{MsgIC}
-use Rattle.mctp.specs.declared.Cookie.{Cookie}
 use Rattle.mctp.specs.declared.Header.{Header}
 use Rattle.slot.specs.Slot.{blank_slot, collects}
 use Rattle.slot.specs.Search.{slot_for}
@@ -26,12 +26,13 @@ use Rattle.promises.proofs.Slots.{passes_in, find_is}
 use Rattle.promises.proofs.Quiet.{Open}
 use Rattle.promises.proofs.Frame.{Keeps, keeps}
 use Rattle.promises.proofs.Arrive.{gathering, Poised, Waiting, hands, collects_more}
+use Rattle.mctp.specs.declared.AppCookie.{AppCookie}
 
 -- the header of a packet of K
 abbrev pub headed : Key → Bool → Bool → ℕ → Header
 headed K som eom number = record { key = K; som = som; eom = eom; seq = number }
 
-module _ (B : ℕ) (K : Key) (typ : MsgType) (ic : MsgIC) (cookie : Cookie) (t₀ j : ℕ) where
+module _ (B : ℕ) (K : Key) (typ : MsgType) (ic : MsgIC) (cookie : Option AppCookie) (t₀ j : ℕ) where
   -- ---- what waits goes on waiting
 
   module _ (number : ℕ) (bytes : List ℕ) (short : length bytes ≤ B) where

@@ -10,11 +10,11 @@ use mathlib.Core.List.{List}
 use lib.ListN.{length, get_or, set, length-set}
 use lib.Seq.{get_or-set_other, get_or-set_same, set_out}
 use borrow.Author.Tests.{not-true}
+use Rattle.std.specs.Prelude.{Some}
 use Rattle.octets.specs.Bytes.{over}
 use Rattle.octets.proofs.Part.{over-nil}
 use Rattle.mctp.specs.declared.Key.{Key}
 use Rattle.mctp.specs.declared.Header.{Header}
-use Rattle.mctp.specs.declared.HeaderRead.TheVariants.{Good}
 use Rattle.mctp.specs.Terms.{same_key}
 use Rattle.mctp.specs.Header.{header_of}
 use Rattle.slot.specs.declared.Reassembler.{Reassembler}
@@ -66,7 +66,7 @@ module _ (K : Key) (j : ℕ) (l : List Reassembler) where
 -- ---- a receive of another key
 
 module _ (B : ℕ) (K : Key) (j : ℕ) (st : Stack) (c : collects K (slot_at j st) ≡ true) (p : List ℕ) (n : has_key K (header_of p) ≡ false) where
-  other : (h : Header) → header_of p ≡ Good h → same_key h.key K ≡ false
+  other : (h : Header) → header_of p ≡ Some h → same_key h.key K ≡ false
   other h e = ap (has_key K) (sym e) ∙ n
 
   receive_slots : (r : Receipt) → Outcome B st p r → SlotsKeep K j st.slots r.stack.slots

@@ -7,32 +7,31 @@ use mathlib.Core.Path.{◌≡◌, refl, sym, ap, ◌∙◌}
 use mathlib.Core.Bool.{Bool, true, false, ◌&&◌, ◌||◌}
 use mathlib.Core.List.{List, [], ◌∷◌, ◌++◌}
 use lib.ListN.{length, get_or, length-append}
+use Rattle.std.specs.Prelude.{None, Ok, Option, Result}
 use Rattle.octets.specs.Pick.{pick}
 use Rattle.octets.specs.Find.{find}
 use Rattle.mctp.specs.declared.Key.{Key}
 use Rattle.mctp.specs.declared.MsgType.{MsgType}
 use Rattle.mctp.specs.declared.MsgIC.{MsgIC}
-use Rattle.mctp.specs.declared.Cookie.{Cookie}
-use Rattle.mctp.specs.declared.Cookie.TheVariants.{Absent}
 use Rattle.mctp.specs.Header.{type_of}
 use Rattle.flows.specs.Table.{standing, flow_cookie}
-use Rattle.reassemble.specs.declared.Gate.TheVariants.{Pass}
 use Rattle.slot.specs.Slot.{collects}
 use Rattle.reassemble.specs.Enter.{opening, opened, gate_reply, gate_empty}
 use Rattle.fragment.specs.Cutting.{PacketIs, InTurn, body_in, joined, kind_in}
 use Rattle.state.specs.Stack.{slot_at}
-use Rattle.handles.specs.declared.Fetched.{Fetched}
-use Rattle.handles.specs.declared.Fetched.TheVariants.{Message as Fetch}
 use Rattle.handles.specs.Handles.{fetch_of}
+use Rattle.handles.specs.declared.Message.{Message as Facts}
 use Rattle.promises.specs.Calls.{World, Call, receive, step, steps}
 use Rattle.promises.specs.Delivery.{Message, read_from, next_gap, later_gaps, Delivers, collecting, vacancy, cookie_for, Lawful}
 use Rattle.promises.proofs.Facts.{no_true}
 use Rattle.promises.proofs.Arrive.{Poised}
 use Rattle.promises.proofs.Deliver.{headed, delivers_from}
 use Rattle.promises.proofs.Begin.{again_poised, fresh_poised}
+use Rattle.mctp.specs.declared.AppCookie.{AppCookie}
+use Rattle.mctp.specs.declared.Error.{Error}
 
 module _ (B : ℕ) (K : Key) (typ : MsgType) (ic : MsgIC) (mtu : ℕ) (body : List ℕ) (gaps : List (List Call)) (w : World) where
-  message : Cookie → Message
+  message : Option AppCookie → Message
   message c = record { key = K; typ = typ; ic = ic; body = body; cookie = c }
 
   module _ (p : List ℕ) (ps : List (List ℕ)) (law : Lawful B K typ ic mtu body (p ∷ ps) gaps w) where
@@ -51,7 +50,7 @@ module _ (B : ℕ) (K : Key) (typ : MsgType) (ic : MsgIC) (mtu : ℕ) (body : Li
     kind_is = law.carries.kind
 
     -- from any slot in which the first fragment can begin
-    from : (c : Cookie) (j : ℕ) → ((eom : Bool) → PacketIs K mtu true eom number p → Poised B K typ ic c w.stack.head.now.clock j [] (headed K true eom number) p w)
+    from : (c : Option AppCookie) (j : ℕ) → ((eom : Bool) → PacketIs K mtu true eom number p → Poised B K typ ic c w.stack.head.now.clock j [] (headed K true eom number) p w)
         → Delivers B (message c) (p ∷ ps) gaps w
     unfolding message number
     from c j o =
@@ -65,10 +64,10 @@ module _ (B : ℕ) (K : Key) (typ : MsgType) (ic : MsgIC) (mtu : ℕ) (body : Li
     again : collecting K w.stack ≡ true → Delivers B (message (slot_at (find (collects K) w.stack.slots) w.stack).cookie) (p ∷ ps) gaps w
     again e = from _ _ (λ eom is. again_poised B K typ ic mtu number eom p w is kind_is small law.pool e)
 
-    fresh : collecting K w.stack ≡ false → vacancy w.stack ≡ true → (c : Cookie)
-        → ((eom : Bool) → pick K.owner (Pass (opened (headed K true eom number) Absent))
+    fresh : collecting K w.stack ≡ false → vacancy w.stack ≡ true → (c : Option AppCookie)
+        → ((eom : Bool) → pick K.owner (Ok (opened (headed K true eom number) None))
         (gate_reply (headed K true eom number) (standing K.source K.tag w.stack.flows) (flow_cookie K.source K.tag w.stack.flows))
-        ≡ Pass (opened (headed K true eom number) c))
+        ≡ Ok (opened (headed K true eom number) c))
         → Delivers B (message c) (p ∷ ps) gaps w
     unfolding gate_empty gate_reply opening pick
     fresh e f c g = from c _ (λ eom is. fresh_poised B K typ ic mtu number eom p w is kind_is small law.pool e f c (rw (law.dest, law.source) (g eom)))
@@ -77,17 +76,17 @@ module _ (B : ℕ) (K : Key) (typ : MsgType) (ic : MsgIC) (mtu : ℕ) (body : Li
     unfolding gate_reply pick
     out = go (collecting K w.stack) (vacancy w.stack) K.owner (standing K.source K.tag w.stack.flows) refl refl refl refl law.begins
       where
-        old : Cookie
+        old : Option AppCookie
         old = (slot_at (find (collects K) w.stack.slots) w.stack).cookie
 
-        flow : Cookie
+        flow : Option AppCookie
         flow = flow_cookie K.source K.tag w.stack.flows
 
         go : (a b c d : Bool) → collecting K w.stack ≡ a → vacancy w.stack ≡ b → K.owner ≡ c → standing K.source K.tag w.stack.flows ≡ d
-            → a || (b && (c || d)) ≡ true → Delivers B (message (pick a old (pick c Absent flow))) (p ∷ ps) gaps w
+            → a || (b && (c || d)) ≡ true → Delivers B (message (pick a old (pick c None flow))) (p ∷ ps) gaps w
         go true b c d ea eb ec ed y = again ea
         go false false c d ea eb ec ed y = absurd (no_true y)
-        go false true true d ea eb ec ed y = fresh ea eb Absent (λ eom. rw ec)
+        go false true true d ea eb ec ed y = fresh ea eb None (λ eom. rw ec)
         go false true false true ea eb ec ed y = fresh ea eb flow (λ eom. rw (ec, ed))
         go false true false false ea eb ec ed y = absurd (no_true y)
 
@@ -111,8 +110,8 @@ one_message B (p ∷ []) gaps w m m' d d' =
     let i : d.handle.index ≡ d'.handle.index = cc in
     let n : d.handle.issue ≡ d'.handle.issue = cc in
     let after = step B (receive p) w in
-    let fetch : ℕ → ℕ → Fetched = λ j k. fetch_of B (record { index = j; issue = k }) after.stack (length after.pool) in
-    let f : Fetch d.facts ≡ Fetch d'.facts = sym d.fetched ∙ ap (λ (j : ℕ). fetch j d.handle.issue) i ∙ ap (fetch d'.handle.index) n ∙ d'.fetched in
+    let fetch : ℕ → ℕ → Result Facts Error = λ j k. fetch_of B (record { index = j; issue = k }) after.stack (length after.pool) in
+    let f : Ok d.facts ≡ Ok d'.facts = sym d.fetched ∙ ap (λ (j : ℕ). fetch j d.handle.issue) i ∙ ap (fetch d'.handle.index) n ∙ d'.fetched in
     let g : d.facts ≡ d'.facts = cc in
     sym d.message ∙ ap (read_from after.pool) g ∙ d'.message
 one_message B (p ∷ q ∷ ps) gaps w m m' d d' = one_message B (q ∷ ps) (later_gaps gaps) (steps B (next_gap gaps) (step B (receive p) w)) m m' d.1 d'.1

@@ -5,6 +5,7 @@ use mathlib.Core.Bool.{true, false}
 use mathlib.Core.List.{List, [], ◌∷◌}
 use lib.Dec.{lit≤}
 use lib.ListN.{replicate}
+use Rattle.std.specs.Prelude.{None, Option, Some}
 use Rattle.octets.specs.Pick.{pick}
 use Rattle.octets.specs.Find.{find}
 use Rattle.octets.specs.Bytes.{over, part}
@@ -14,8 +15,6 @@ use Rattle.mctp.specs.declared.MsgType.{MsgType}
 use Rattle.mctp.specs.declared.MsgIC.{MsgIC}
 use Rattle.mctp.specs.declared.Tag.{Tag}
 use Rattle.mctp.specs.declared.Tag.TheVariants.{Owned}
-use Rattle.mctp.specs.declared.Cookie.{Cookie}
-use Rattle.mctp.specs.declared.Cookie.TheVariants.{Absent, Given}
 use Rattle.mctp.specs.Terms.{same_key, same_bool}
 use Rattle.mctp.specs.Answer.{gives}
 use Rattle.mctp.specs.Header.{header_of}
@@ -31,8 +30,6 @@ use Rattle.fragment.specs.Step.{new_of, fresh, step_of}
 use Rattle.fragment.specs.Cutting.{InTurn, joined, kind_in, Carries}
 use Rattle.fragment.specs.Run.{written, after}
 use Rattle.sending.specs.declared.Send.{Send}
-use Rattle.sending.specs.declared.SendTag.TheVariants.{Fresh}
-use Rattle.sending.specs.declared.SendMtu.TheVariants.{Own}
 use Rattle.slot.specs.Handle.{next_issue}
 use Rattle.receiving.specs.Receive.{land, receive_at, receive_by, receive_of}
 use Rattle.sending.specs.Sends.{owned_tag, tag_for, send_as, start_send_of}
@@ -44,6 +41,7 @@ use Rattle.promises.specs.History.{noted, logged, history, since, gathered, Exac
 use Rattle.promises.proofs.HandOut.{hands_out}
 use Rattle.promises.proofs.EndToEnd.{cut_and-joined}
 use Rattle.promises.proofs.Told.{told, told_here}
+use Rattle.mctp.specs.declared.AppCookie.{AppCookie}
 
 -- own EID 8, MTU 64, clock 0; a body has at most 1,032 bytes
 abbrev pub start : World
@@ -57,14 +55,14 @@ abbrev ic : MsgIC
 ic = record { 0 = false }
 
 -- the premises hold of these packets, and the message is handed out with that cookie
-abbrev Met : Key → List ℕ → List (List ℕ) → List (List Call) → World → Cookie → Type 0
+abbrev Met : Key → List ℕ → List (List ℕ) → List (List Call) → World → Option AppCookie → Type 0
 Met K body ps gaps w cookie =
     Lawful 1032 K typ ic 64 body ps gaps w × Delivers 1032 (record { key = K; typ = typ; ic = ic; body = body; cookie = cookie }) ps gaps w
 
-met : (K : Key) (body : List ℕ) (ps : List (List ℕ)) (gaps : List (List Call)) (w : World) (cookie : Cookie)
+met : (K : Key) (body : List ℕ) (ps : List (List ℕ)) (gaps : List (List Call)) (w : World) (cookie : Option AppCookie)
     → Lawful 1032 K typ ic 64 body ps gaps w → cookie_for K w.stack ≡ cookie → Met K body ps gaps w cookie
 met K body ps gaps w cookie law e =
-    (law, subst (λ (c : Cookie). Delivers 1032 (record { key = K; typ = typ; ic = ic; body = body; cookie = c }) ps gaps w) e (hands_out 1032 K typ ic 64 body ps gaps w law))
+    (law, subst (λ (c : Option AppCookie). Delivers 1032 (record { key = K; typ = typ; ic = ic; body = body; cookie = c }) ps gaps w) e (hands_out 1032 K typ ic 64 body ps gaps w law))
 
 -- ---- three fragments, with calls between
 
@@ -98,10 +96,10 @@ between =
     (update 5000 ∷ receive other ∷ set_eid 20 ∷ []) ∷ (elsewhere 5000 other ∷ finished_receive (record { index = 1; issue = 1 }) ∷ cancel_flow (record { 0 = 9 }) (record { 0 = 2 }) ∷ update 6000 ∷ []) ∷ []
 
 -- a message of several fragments with calls between, with no cookie
-pub three_met : Met asks (0xAA ∷ 0xBB ∷ 0xCC ∷ []) three between start Absent
+pub three_met : Met asks (0xAA ∷ 0xBB ∷ 0xCC ∷ []) three between start None
 unfolding header_of is_local find pick same_key same_bool
 three_met =
-    met asks (0xAA ∷ 0xBB ∷ 0xCC ∷ []) three between start Absent
+    met asks (0xAA ∷ 0xBB ∷ 0xCC ∷ []) three between start None
     (record { carries = three_carried; fits = lit≤ tt; source = refl; dest = refl; begins = refl; pool = lit≤ tt; between = refl }) refl
 
 -- ---- cut by a fragmenter, and joined
@@ -117,7 +115,7 @@ label = Owned (record { 0 = 2 })
 
 -- EID 9 cuts for EID 8 under its own tag 2: MTU 6, no cookie, its first packet numbered 3
 abbrev cutter : Fragmenter
-cutter = fresh typ peer own label 6 Absent ic 3
+cutter = fresh typ peer own label 6 None ic 3
 
 abbrev sent : List ℕ
 sent = 0xAA ∷ 0xBB ∷ 0xCC ∷ []
@@ -135,17 +133,17 @@ unfolding written step_of pick part
 cut_packets_lem = refl
 
 -- `cut_and-joined` speaks of these packets: they hand out the body
-pub cut_met : Delivers 1032 (record { key = asks; typ = typ; ic = ic; body = sent; cookie = Absent }) cut gap start
+pub cut_met : Delivers 1032 (record { key = asks; typ = typ; ic = ic; body = sent; cookie = None }) cut gap start
 unfolding new_of after step_of header_of is_local find pick same_key same_bool
 cut_met =
-    subst (λ (ps : List (List ℕ)). Delivers 1032 (record { key = asks; typ = typ; ic = ic; body = sent; cookie = Absent }) ps gap start) cut_packets_lem
-    (cut_and-joined typ peer own label 6 Absent ic 3 cutter refl sent (255 ∷ 255 ∷ 255 ∷ []) refl 1032 gap start (lit≤ tt) refl refl refl (lit≤ tt) refl)
+    subst (λ (ps : List (List ℕ)). Delivers 1032 (record { key = asks; typ = typ; ic = ic; body = sent; cookie = None }) ps gap start) cut_packets_lem
+    (cut_and-joined typ peer own label 6 None ic 3 cutter refl sent (255 ∷ 255 ∷ 255 ∷ []) refl 1032 gap start (lit≤ tt) refl refl refl (lit≤ tt) refl)
 
 -- ---- a reply, its flow standing
 
 -- a send to EID 9 under a fresh tag, with an expiry and the cookie 77
 abbrev query : Send
-query = record { dest = record { 0 = 9 }; typ = typ; tag = Fresh; expires = true; ic = ic; mtu = Own; cookie = Given (record { 0 = 77 }) }
+query = record { dest = record { 0 = 9 }; typ = typ; tag = None; expires = true; ic = ic; mtu = None; cookie = Some (record { 0 = 77 }) }
 
 -- its reply comes under tag 1, which EID 9 does not own
 abbrev replies : Key
@@ -168,10 +166,10 @@ abbrev late : List (List Call)
 late = (receive other ∷ update 6000 ∷ []) ∷ []
 
 -- a reply whose flow stands, with the flow's cookie
-pub reply_met : Met replies (0xAA ∷ 0xBB ∷ []) two late (steps 1032 (start_send query ∷ []) start) (Given (record { 0 = 77 }))
+pub reply_met : Met replies (0xAA ∷ 0xBB ∷ []) two late (steps 1032 (start_send query ∷ []) start) (Some (record { 0 = 77 }))
 unfolding is_local find pick steps step start_send_of send_as tag_for owned_tag set_flow fresh_flow with_tag insert_flow new_flow free_tag_of bits_of is_flow next header_of same_key same_bool
 reply_met =
-    met replies (0xAA ∷ 0xBB ∷ []) two late (steps 1032 (start_send query ∷ []) start) (Given (record { 0 = 77 }))
+    met replies (0xAA ∷ 0xBB ∷ []) two late (steps 1032 (start_send query ∷ []) start) (Some (record { 0 = 77 }))
     (record { carries = two_carried; fits = lit≤ tt; source = refl; dest = refl; begins = refl; pool = lit≤ tt; between = refl }) refl
 
 -- ---- a restart in a slot that collects
@@ -186,11 +184,11 @@ unfolding is_local find pick steps step start_send_of send_as tag_for owned_tag 
 flow_gone = refl
 
 -- the reply begins again in that slot, with the cookie that the slot has, though the flow is gone
-pub restart_met : Met replies (0xAA ∷ 0xBB ∷ []) two [] stranded (Given (record { 0 = 77 }))
+pub restart_met : Met replies (0xAA ∷ 0xBB ∷ []) two [] stranded (Some (record { 0 = 77 }))
 unfolding is_local find pick steps step start_send_of send_as tag_for owned_tag set_flow fresh_flow with_tag insert_flow new_flow free_tag_of bits_of is_flow next
     update_of checked clocked expired timeout_of faded_flow faded_slot least_left receive_of receive_by receive_at header_of slot_for gate gate_empty gate_reply opening land enter append same_key same_bool over
 restart_met =
-    met replies (0xAA ∷ 0xBB ∷ []) two [] stranded (Given (record { 0 = 77 }))
+    met replies (0xAA ∷ 0xBB ∷ []) two [] stranded (Some (record { 0 = 77 }))
     (record { carries = two_carried; fits = lit≤ tt; source = refl; dest = refl; begins = refl; pool = lit≤ tt; between = refl }) refl
 
 -- ---- what was taken

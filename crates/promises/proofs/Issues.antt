@@ -6,6 +6,7 @@ use mathlib.Core.Path.{◌≡◌, sym, ap, ◌∙◌}
 use mathlib.Core.Bool.{false}
 use mathlib.Core.List.{List, [], ◌∷◌}
 use borrow.Author.Tests.{ltb-false, ne_eqb}
+use Rattle.std.specs.Prelude.{Ok, Some}
 use Rattle.octets.specs.Pick.{pick_cases}
 use Rattle.mctp.specs.declared.Eid.{Eid}
 use Rattle.mctp.specs.declared.Tag.{Tag}
@@ -16,10 +17,8 @@ use Rattle.slot.specs.Slot.{issue_is, kept_under, listed}
 use Rattle.slot.specs.Search.{earliest}
 use Rattle.state.specs.Stack.{Stack, slot_at}
 use Rattle.slot.specs.declared.ReceiveHandle.{ReceiveHandle}
-use Rattle.receiving.specs.declared.Received.TheVariants.{Message as Told}
 use Rattle.slot.specs.Handle.{next_issue}
 use Rattle.receiving.specs.Receive.{receive_of}
-use Rattle.handles.specs.declared.Deferred.TheVariants.{Found}
 use Rattle.handles.specs.Handles.{Lookup, is_good, take_of, by_source_of, by_cookie_of}
 use Rattle.promises.specs.Calls.{Call, World, step, steps}
 use Rattle.promises.proofs.Stale.{Renumbered, same, idle, fresh, numbers, receive_counted, good_is, idle_issue}
@@ -31,26 +30,26 @@ next_some n = pick_cases (λ (x : ℕ). x ≡ 0 → ⊥) (λ _ e. omega arith) (
 -- ---- what goes out
 
 -- a handle that goes out with a packet, whatever pool is lent
-pub told_some : (B : ℕ) (st : Stack) (room : ℕ) (p : List ℕ) (h : ReceiveHandle) → (receive_of B st room p).said ≡ Told h → h.issue ≡ 0 → ⊥
+pub told_some : (B : ℕ) (st : Stack) (room : ℕ) (p : List ℕ) (h : ReceiveHandle) → (receive_of B st room p).said ≡ Ok (Some h) → h.issue ≡ 0 → ⊥
 told_some B st room p h e z = next_some st.head.issue (sym ((receive_counted B st p room).next h e).0 ∙ z)
 
-abbrev Some : Lookup → Type 0
-Some r = (h : ReceiveHandle) → r.said ≡ Found h → h.issue ≡ 0 → ⊥
+abbrev Numbered : Lookup → Type 0
+Numbered r = (h : ReceiveHandle) → r.said ≡ Some h → h.issue ≡ 0 → ⊥
 
-take_some : (i : ℕ) (st : Stack) → Some (take_of i st)
+take_some : (i : ℕ) (st : Stack) → Numbered (take_of i st)
 unfolding take_of
 take_some i st =
-    pick_cases Some
+    pick_cases Numbered
     (λ _ h e z. let y : record { index = i; issue = next_issue st.head.issue } ≡ h = cc in next_some st.head.issue (ap (λ (x : ReceiveHandle). x.issue) y ∙ z))
     (λ _ h e z. let y : ◌≡◌ {A = ℕ} 0 1 = cc in omega arith)
 
 -- a handle that goes out with either lookup
-pub source_some : (source : Eid) (tag : Tag) (st : Stack) → Some (by_source_of source tag st)
+pub source_some : (source : Eid) (tag : Tag) (st : Stack) → Numbered (by_source_of source tag st)
 unfolding by_source_of
 source_some source tag st =
-    pick_cases Some (λ _ h e z. let y : ◌≡◌ {A = ℕ} 0 1 = cc in omega arith) (λ _. take_some (earliest (kept_under source (is_owner tag) (tag_of tag)) st.slots) st)
+    pick_cases Numbered (λ _ h e z. let y : ◌≡◌ {A = ℕ} 0 1 = cc in omega arith) (λ _. take_some (earliest (kept_under source (is_owner tag) (tag_of tag)) st.slots) st)
 
-pub cookie_some : (cookies : List ℕ) (st : Stack) → Some (by_cookie_of cookies st)
+pub cookie_some : (cookies : List ℕ) (st : Stack) → Numbered (by_cookie_of cookies st)
 cookie_some cookies st = take_some (earliest (λ (s : Reassembler). listed cookies s.cookie) st.slots) st
 
 -- ---- what is good

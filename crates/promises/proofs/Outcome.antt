@@ -5,20 +5,15 @@ use mathlib.Core.Bool.{Bool, true, false}
 use mathlib.Core.List.{List, []}
 use lib.ListN.{length, get_or, set, drop, length-drop}
 use borrow.Author.Tests.{ltb-true, ltb-false, eqb-true}
+use Rattle.std.specs.Prelude.{Err, None, Ok, Option, Result, Some}
 use Rattle.octets.specs.Pick.{pick_cases}
 use Rattle.mctp.specs.declared.Header.{Header}
-use Rattle.mctp.specs.declared.HeaderRead.{HeaderRead}
-use Rattle.mctp.specs.declared.HeaderRead.TheVariants.{Good, Bad}
 use Rattle.mctp.specs.declared.Error.{Error}
 use Rattle.mctp.specs.Header.{header_of, lead, type_of}
 use Rattle.stamp.specs.declared.EventStamp.{EventStamp}
 use Rattle.stamp.specs.Stamp.{next}
 use Rattle.slot.specs.declared.State.TheVariants.{Collecting}
 use Rattle.slot.specs.declared.Reassembler.{Reassembler}
-use Rattle.reassemble.specs.declared.Gate.{Gate}
-use Rattle.reassemble.specs.declared.Gate.TheVariants.{Shut, Pass}
-use Rattle.reassemble.specs.declared.Entry.{Entry}
-use Rattle.reassemble.specs.declared.Entry.TheVariants.{Frees, Takes}
 use Rattle.slot.specs.Slot.{blank_slot, is_empty}
 use Rattle.slot.specs.Search.{slot_for}
 use Rattle.reassemble.specs.Enter.{enter, append, appended, begun}
@@ -32,6 +27,7 @@ use Rattle.promises.specs.History.{takes}
 use Rattle.promises.proofs.Facts.{no_both}
 use Rattle.promises.proofs.Clock.{next_clock, opening_clock}
 use Rattle.promises.proofs.Gate.{Source, Found, search_finds, Enters, Right, gate_right}
+use Rattle.reassemble.specs.declared.Intake.{Intake}
 
 -- the slot before the packet's body is appended, after SOM has been applied
 pub record Base (st : Stack) (i : ℕ) (h : Header) (p : List ℕ) (s : Reassembler) : Type 0 where
@@ -45,7 +41,7 @@ pub record Base (st : Stack) (i : ℕ) (h : Header) (p : List ℕ) (s : Reassemb
 
 -- the packet p was taken into slot i
 pub record Took (B : ℕ) (st : Stack) (p : List ℕ) (r : Receipt) (i : ℕ) (h : Header) : Type 0 where
-  pub read : header_of p ≡ Good h
+  pub read : header_of p ≡ Some h
   pub found : i < length st.slots
   pub source : Source st.slots i h
   pub base : Reassembler
@@ -62,7 +58,7 @@ pub record Took (B : ℕ) (st : Stack) (p : List ℕ) (r : Receipt) (i : ℕ) (h
 
 pub data Outcome (B : ℕ) (st : Stack) (p : List ℕ) (r : Receipt) : Type 0 where
   quiet : r.stack.slots ≡ st.slots → r.bytes ≡ [] → takes r.said ≡ false → Outcome B st p r
-  dropped : (i : ℕ) (h : Header) → header_of p ≡ Good h → Source st.slots i h
+  dropped : (i : ℕ) (h : Header) → header_of p ≡ Some h → Source st.slots i h
       → r.stack.slots ≡ set st.slots i blank_slot → r.bytes ≡ [] → takes r.said ≡ false → Outcome B st p r
   took : (i : ℕ) (h : Header) → Took B st p r i h → Outcome B st p r
 
@@ -71,7 +67,7 @@ pub data Outcome (B : ℕ) (st : Stack) (p : List ℕ) (r : Receipt) : Type 0 wh
 pub opening_slots : (b : Bool) (st : Stack) → (counted_opening b st).slots ≡ st.slots
 opening_slots b st = pick_cases (λ (r : Stack). r.slots ≡ st.slots) (λ _. refl) (λ _. refl)
 
-module _ (B : ℕ) (st : Stack) (p : List ℕ) (h : Header) (read : header_of p ≡ Good h) (i : ℕ) (q : i < length st.slots)
+module _ (B : ℕ) (st : Stack) (p : List ℕ) (h : Header) (read : header_of p ≡ Some h) (i : ℕ) (q : i < length st.slots)
     (st₁ : Stack) (same : st₁.slots ≡ st.slots) (still : st₁.head.now.clock ≡ st.head.now.clock) (s : Reassembler) (r : Enters st i h s) where
   now₁ : EventStamp
   now₁ = next st₁.head.now
@@ -80,15 +76,15 @@ module _ (B : ℕ) (st : Stack) (p : List ℕ) (h : Header) (read : header_of p 
   unfolding now₁
   now_clock = next_clock st₁.head.now ∙ still
 
-  Whole : Entry → Type 0
+  Whole : Result Intake Error → Type 0
   Whole e = Outcome B st p (settled B i (ticked st₁) h.key p e)
 
-  drops : (err : Error) → Whole (Frees err)
+  drops : (err : Error) → Whole (Err err)
   unfolding Whole
   drops err = dropped i h read r.source (ap (λ (l : List Reassembler). set l i blank_slot) same) refl refl
 
   body_is : drop (lead h.som) p ≡ body_in p
-  body_is = ap (λ (x : HeaderRead). drop (lead (says_som x)) p) (sym read)
+  body_is = ap (λ (x : Option Header). drop (lead (says_som x)) p) (sym read)
 
   size_is : length p - lead h.som ≡ length (body_in p)
   size_is = sym (length-drop (lead h.som) p) ∙ ap length body_is
@@ -98,7 +94,7 @@ module _ (B : ℕ) (st : Stack) (p : List ℕ) (h : Header) (read : header_of p 
 
   -- a packet that has the number that is due, and that fits
   fills : (x : Reassembler) → Base st i h p x → h.seq ≡ x.next_seq → x.len + (length p - lead h.som) ≤ B
-      → Whole (Takes (record { slot = appended h.eom now₁ issue₁ (length p - lead h.som) x; at = x.len; from = lead h.som; whole = h.eom }))
+      → Whole (Ok (record { slot = appended h.eom now₁ issue₁ (length p - lead h.som) x; at = x.len; from = lead h.som; whole = h.eom }))
   unfolding Whole issue₁
   fills x isb n f = took i h (record {
     read = read;
@@ -156,16 +152,16 @@ module _ (B : ℕ) (st : Stack) (p : List ℕ) (h : Header) (read : header_of p 
       (λ n. joins s (going_base n) 4 (sym (ap lead n)))
 
 module _ (B : ℕ) (st : Stack) (p : List ℕ) where
-  land_outcome : (h : Header) → header_of p ≡ Good h → (i : ℕ) → i < length st.slots → (st₁ : Stack) → st₁.slots ≡ st.slots
-      → st₁.head.now.clock ≡ st.head.now.clock → (g : Gate) → Right st i h g → Outcome B st p (land B i st₁ h p g)
+  land_outcome : (h : Header) → header_of p ≡ Some h → (i : ℕ) → i < length st.slots → (st₁ : Stack) → st₁.slots ≡ st.slots
+      → st₁.head.now.clock ≡ st.head.now.clock → (g : Result Reassembler Error) → Right st i h g → Outcome B st p (land B i st₁ h p g)
   unfolding land Right Whole now₁ issue₁
-  land_outcome h read i q st₁ same still (Shut err) r = quiet same refl refl
-  land_outcome h read i q st₁ same still (Pass s) r = enter_outcome B st p h read i q st₁ same still s r
+  land_outcome h read i q st₁ same still (Err err) r = quiet same refl refl
+  land_outcome h read i q st₁ same still (Ok s) r = enter_outcome B st p h read i q st₁ same still s r
 
-  lands : (r : HeaderRead) → header_of p ≡ r → (i : ℕ) → i < length st.slots → Found r st i → Outcome B st p (receive_at B i st p r)
+  lands : (r : Option Header) → header_of p ≡ r → (i : ℕ) → i < length st.slots → Found r st i → Outcome B st p (receive_at B i st p r)
   unfolding receive_at
-  lands Bad read i q f = quiet (opening_slots (is_empty (slot_at i st)) st) refl refl
-  lands (Good h) read i q f =
+  lands None read i q f = quiet (opening_slots (is_empty (slot_at i st)) st) refl refl
+  lands (Some h) read i q f =
       land_outcome h read i q (counted_opening (is_empty (slot_at i st)) st) (opening_slots (is_empty (slot_at i st)) st)
       (opening_clock (is_empty (slot_at i st)) st) (gate_of i st h) (gate_right st i h f)
 

@@ -7,11 +7,10 @@ use mathlib.Core.Path.{◌≡◌, refl, sym, ap, ◌∙◌}
 use mathlib.Core.Bool.{Bool, true, false, not, ◌&&◌}
 use mathlib.Core.List.{List}
 use borrow.Author.Tests.{le-ltb, leb-true, not-true}
+use Rattle.std.specs.Prelude.{Err, Ok, Result}
 use Rattle.config.specs.Config.{slot_time}
 use Rattle.octets.specs.Pick.{pick, pick_cases}
 use Rattle.mctp.specs.declared.Eid.{Eid}
-use Rattle.mctp.specs.declared.EidRead.{EidRead}
-use Rattle.mctp.specs.declared.EidRead.TheVariants.{Normal, Refused}
 use Rattle.mctp.specs.declared.TagValue.{TagValue}
 use Rattle.mctp.specs.declared.Key.{Key}
 use Rattle.mctp.specs.Terms.{same_bool, normal_eid}
@@ -30,6 +29,7 @@ use Rattle.promises.proofs.Facts.{no_both, no_true, same_bool_lem}
 use Rattle.promises.proofs.Slots.{collects_state, collects_key, not_in}
 use Rattle.promises.proofs.Clock.{send_same}
 use Rattle.promises.proofs.Walks.{Touches, touches_by, untouched, out_idle, handled_touches, deferred_touches, source_touches, update_touches, cancel_touches}
+use Rattle.mctp.specs.declared.Error.{Error}
 
 -- the slot s collects under K since the clock t₀
 pub record Open (K : Key) (t₀ : ℕ) (st : Stack) (s : Reassembler) : Type 0 where
@@ -95,9 +95,9 @@ reply_spared peer tag st s e = record {
 unmoved : {c : Call} (st : Stack) → Touches (Spare c st) st st
 unmoved st = untouched st st refl (le_refl st.head.now.clock)
 
-eid_unmoved : {c : Call} (r : EidRead) (st : Stack) → Touches (Spare c st) st (eid_set r st).stack
-eid_unmoved (Normal own) st = untouched st (eid_set (Normal own) st).stack refl (le_refl st.head.now.clock)
-eid_unmoved (Refused err) st = unmoved st
+eid_unmoved : {c : Call} (r : Result Eid Error) (st : Stack) → Touches (Spare c st) st (eid_set r st).stack
+eid_unmoved (Ok own) st = untouched st (eid_set (Ok own) st).stack refl (le_refl st.head.now.clock)
+eid_unmoved (Err err) st = unmoved st
 
 module _ (B : ℕ) (w : World) where
   st : Stack

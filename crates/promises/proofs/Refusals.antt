@@ -5,11 +5,11 @@ use mathlib.Core.Path.{◌≡◌, refl, ap, ◌∙◌}
 use mathlib.Core.Bool.{true}
 use mathlib.Core.List.{List, [], ◌∷◌, flatten}
 use lib.ListN.{length}
+use Rattle.std.specs.Prelude.{Err, None, Option, Result, Some}
 use Rattle.octets.specs.Pick.{pick, pick_true, pick_false, pick_cases}
 use Rattle.octets.specs.Find.{find}
 use Rattle.octets.specs.Bytes.{over}
 use Rattle.octets.proofs.Part.{over-nil}
-use Rattle.mctp.specs.declared.EidRead.{EidRead}
 use Rattle.mctp.specs.declared.Error.{Error}
 use Rattle.mctp.specs.Terms.{error_no, normal_eid, same_key, same_bool}
 use Rattle.mctp.specs.Header.{header_of}
@@ -30,16 +30,11 @@ use Rattle.state.specs.Stack.{Stack}
 use Rattle.stamp.specs.Checks.{least_left, any_expired}
 use Rattle.slot_walks.specs.SlotWalks.{swept, blocked}
 use Rattle.slot.specs.declared.ReceiveHandle.{ReceiveHandle}
-use Rattle.receiving.specs.declared.Received.TheVariants.{Refused}
 use Rattle.slot.specs.Handle.{next_issue}
 use Rattle.receiving.specs.Conclude.{received_as}
 use Rattle.receiving.specs.Receive.{land, receive_at, receive_by, receive_of}
 use Rattle.sending.specs.Sends.{owned_tag, tag_for, send_as, start_send_of}
 use Rattle.updating.specs.Update.{Update, updated_as, checked, update_of}
-use Rattle.handles.specs.declared.Done.{Done}
-use Rattle.handles.specs.declared.Deferred.{Deferred}
-use Rattle.handles.specs.declared.Deferred.TheVariants.{Found, Nothing}
-use Rattle.handles.specs.declared.Fetched.{Fetched}
 use Rattle.handles.specs.Handles.{Handled, done_as, fetched_as, deferred_as, is_good, handled, fetch_of, by_source_of, by_cookie_of}
 use Rattle.estack.specs.Basics.{new_says, set_eid_of, eid_set, cancel_of}
 use Rattle.promises.specs.Calls.{Call, receive, elsewhere, update, start_send, cancel_flow, get_deferred, get_deferred_by_cookie, fetch_message, finished_receive, return_handle, set_cookie, set_eid, eid, is_local_dest, free_tags, World, with, step, receipt, performed}
@@ -51,6 +46,8 @@ use Rattle.promises.proofs.Refused.{Says, Where, refusal, number, weaker, sole}
 use Rattle.promises.proofs.RefusedReceive.{Unreceived, received_says, unreceived}
 use Rattle.promises.proofs.RefusedSend.{Unsends, started-says}
 use Rattle.promises.proofs.RefusedCancel.{Uncancels, cancelled_says}
+use Rattle.mctp.specs.declared.Eid.{Eid}
+use Rattle.handles.specs.declared.Message.{Message}
 pub use Rattle.promises.proofs.RefusedReceive.{refused_receive, refused_same}
 pub use Rattle.promises.proofs.RefusedSend.{refused_send}
 pub use Rattle.promises.proofs.RefusedCancel.{refused_cancel}
@@ -89,7 +86,7 @@ module _ (w : World) where
       pick_cases P (λ s. (pick_true _ _ _ s, record { among = sole refl; same = refl }))
       (λ s. pick_cases P (λ g. pick_false _ _ _ s ∙ pick_true _ _ _ g) (λ g. (pick_false _ _ _ s ∙ pick_false _ _ _ g, record { among = sole refl; same = refl })))
     where
-      P : Fetched → Type 0
+      P : Result Message Error → Type 0
       P r = Stays (says_no B (fetch_message h room) w) (3 ∷ 6 ∷ []) w w (fetched_as r)
 
   eid_still : (B n : ℕ) → Stays (says_no B (set_eid n) w) (1 ∷ []) w (with (set_eid_of n w.stack).stack w) (done_as (set_eid_of n w.stack).said)
@@ -98,12 +95,12 @@ module _ (w : World) where
       pick_cases P (λ a. (pick_true _ _ _ a, record { among = sole refl; same = refl }))
       (λ a. pick_cases P (λ b. (pick_false _ _ _ a ∙ pick_true _ _ _ b, record { among = sole refl; same = refl })) (λ b. pick_false _ _ _ a ∙ pick_false _ _ _ b))
     where
-      P : EidRead → Type 0
+      P : Result Eid Error → Type 0
       P r = Stays (says_no B (set_eid n) w) (1 ∷ []) w (with (eid_set r w.stack).stack w) (done_as (eid_set r w.stack).said)
 
-  deferred_still : (w' : World) (d : Deferred) → Stays 0 [] w w' (deferred_as d)
-  deferred_still w' (Found h) = refl
-  deferred_still w' Nothing = refl
+  deferred_still : (w' : World) (d : Option ReceiveHandle) → Stays 0 [] w w' (deferred_as d)
+  deferred_still w' (Some h) = refl
+  deferred_still w' None = refl
 
   stills : (B : ℕ) (c : Call) → still c ≡ true → Stays (says_no B c w) (refusals_of c) w (step B c w) (performed B c w)
   unfolding step
@@ -192,7 +189,7 @@ new_refusals z room mtu n vs e =
     (λ _. pick_cases P (λ _. (refl, sole refl)) (λ _. pick_cases P (λ _. (refl, sole refl)) (λ _. refl)))))
     e
   where
-    P : Done → Type 0
+    P : Result (Unit {0}) Error → Type 0
     P d = Where (Among (2 ∷ 3 ∷ [])) (done_as d)
 
 -- ---- no refusal changes a byte of a buffer
@@ -210,7 +207,7 @@ refused-buffers B c w n vs e = go c (kind B w c) e
     go c (silent s) e = s.pool
 
 -- and none of any other buffer that a receive is lent
-pub refused_bytes : (B : ℕ) (st : Stack) (room : ℕ) (p : List ℕ) (err : Error) → (receive_of B st room p).said ≡ Refused err → (receive_of B st room p).bytes ≡ []
+pub refused_bytes : (B : ℕ) (st : Stack) (room : ℕ) (p : List ℕ) (err : Error) → (receive_of B st room p).said ≡ Err err → (receive_of B st room p).bytes ≡ []
 refused_bytes B st room p err e = (unreceived B st room p (error_no err) [] (ap received_as e)).bytes
 
 -- ---- each of them is met

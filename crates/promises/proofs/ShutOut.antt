@@ -7,6 +7,7 @@ use lib.Dec.{ltb}
 use lib.ListN.{length, get_or}
 use lib.Seq.{get_or-set_same}
 use borrow.Author.Tests.{le-ltb}
+use Rattle.std.specs.Prelude.{Ok, Some}
 use Rattle.octets.specs.Pick.{pick, pick_false}
 use Rattle.mctp.specs.declared.Eid.{Eid}
 use Rattle.mctp.specs.declared.Key.{Key}
@@ -14,7 +15,6 @@ use Rattle.mctp.specs.declared.MsgType.{MsgType}
 use Rattle.mctp.specs.declared.MsgIC.{MsgIC}
 use Rattle.mctp.specs.Answer.{answer_no}
 use Rattle.mctp.specs.declared.Header.{Header}
-use Rattle.mctp.specs.declared.HeaderRead.TheVariants.{Good}
 use Rattle.mctp.specs.Header.{header_of, lead}
 use Rattle.stamp.specs.declared.EventStamp.{EventStamp}
 use Rattle.flows.specs.Tags.{count_free}
@@ -28,7 +28,6 @@ use Rattle.fragment.specs.Cutting.{body_in}
 use Rattle.fragment.specs.Step.{Step, packet_for, emitted, step_of}
 use Rattle.state.specs.Stack.{Stack, slot_at}
 use Rattle.slot.specs.declared.ReceiveHandle.{ReceiveHandle}
-use Rattle.receiving.specs.declared.Received.TheVariants.{Message as Told}
 use Rattle.receiving.specs.Conclude.{said_of}
 use Rattle.receiving.specs.Receive.{Receipt, receive_of}
 use Rattle.estack.specs.Basics.{free_tags_of}
@@ -74,7 +73,7 @@ writes f payload n d r u =
     (pick_false f.done _ _ d ∙ pick_false (ltb n (lead f.first)) _ _ (le-ltb n (lead f.first) r)
     ∙ pick_false (ltb (length payload) f.payload_used) _ (emitted f payload n) (le-ltb (length payload) f.payload_used u))
 
-said_eom : (b : Bool) (i n : ℕ) (h : ReceiveHandle) → said_of b i n ≡ Told h → b ≡ true
+said_eom : (b : Bool) (i n : ℕ) (h : ReceiveHandle) → said_of b i n ≡ Ok (Some h) → b ≡ true
 said_eom true i n h e = refl
 said_eom false i n h e = let z : false ≡ true = cc in z
 
@@ -83,13 +82,13 @@ unfolding pick
 out_now b now issue n s e = rw e
 
 module _ (B : ℕ) (st : Stack) (p : List ℕ) (h : ReceiveHandle) where
-  message_took : (r : Receipt) → Outcome B st p r → r.said ≡ Told h → (i : ℕ) × (g : Header) × Took B st p r i g
+  message_took : (r : Receipt) → Outcome B st p r → r.said ≡ Ok (Some h) → (i : ℕ) × (g : Header) × Took B st p r i g
   message_took r (quiet s b n) e = absurd (no_both (takes r.said) (ap takes e) n)
   message_took r (dropped i g read src s b n) e = absurd (no_both (takes r.said) (ap takes e) n)
   message_took r (took i g t) e = (i, g, t)
 
 -- a stack that hands out a message is changed by that
-pub changes : (B : ℕ) (p : List ℕ) (w : World) (h : ReceiveHandle) → (receipt B p w).said ≡ Told h → (step B (receive p) w).stack ≡ w.stack → ⊥
+pub changes : (B : ℕ) (p : List ℕ) (w : World) (h : ReceiveHandle) → (receipt B p w).said ≡ Ok (Some h) → (step B (receive p) w).stack ≡ w.stack → ⊥
 unfolding step
 changes B p w h e same =
     let q = message_took B w.stack p h (receipt B p w) (receive_outcome B w.stack p (length w.pool)) e in
@@ -106,12 +105,12 @@ changes B p w h e same =
 -- ---- one that hands a message out at SOM and merely nods afterwards
 
 -- a packet without EOM, with SOM or not, is never answered with a message, in whatever stack and with whatever pool
-pub not_before_eom : (B : ℕ) (st : Stack) (room : ℕ) (p : List ℕ) (g : Header) → header_of p ≡ Good g → g.eom ≡ false
-    → (h : ReceiveHandle) → (receive_of B st room p).said ≡ Told h → ⊥
+pub not_before_eom : (B : ℕ) (st : Stack) (room : ℕ) (p : List ℕ) (g : Header) → header_of p ≡ Some g → g.eom ≡ false
+    → (h : ReceiveHandle) → (receive_of B st room p).said ≡ Ok (Some h) → ⊥
 not_before_eom B st room p g read n h e =
     let q = message_took B st p h (receive_of B st room p) (receive_outcome B st p room) e in
     let t : Took B st p (receive_of B st room p) q.0 q.1 = q.2 in
-    let z : Good g ≡ Good q.1 = sym read ∙ t.read in
+    let z : Some g ≡ Some q.1 = sym read ∙ t.read in
     let x : g ≡ q.1 = cc in
     no_both g.eom (ap (λ (y : Header). y.eom) x ∙ said_eom q.1.eom q.0 t.issue h (sym t.said ∙ e)) n
 

@@ -11,17 +11,14 @@ use mathlib.Core.List.{List, [], ◌∷◌, map}
 use lib.ListN.{length, get_or, set}
 use lib.Seq.{get_or-set_same}
 use borrow.Author.Tests.{ltb-false, ne_eqb}
+use Rattle.std.specs.Prelude.{Err, None, Ok, Option, Result, Some}
 use Rattle.octets.specs.Pick.{pick, pick_cases}
 use Rattle.octets.proofs.Each.{get_d_set}
 use Rattle.mctp.specs.declared.Eid.{Eid}
-use Rattle.mctp.specs.declared.EidRead.{EidRead}
-use Rattle.mctp.specs.declared.EidRead.TheVariants.{Normal, Refused as NotNormal}
 use Rattle.mctp.specs.declared.TagValue.{TagValue}
 use Rattle.mctp.specs.declared.Tag.{Tag}
 use Rattle.mctp.specs.declared.Key.{Key}
 use Rattle.mctp.specs.declared.Header.{Header}
-use Rattle.mctp.specs.declared.HeaderRead.{HeaderRead}
-use Rattle.mctp.specs.declared.HeaderRead.TheVariants.{Good, Bad}
 use Rattle.mctp.specs.declared.Error.{Error}
 use Rattle.mctp.specs.declared.Error.TheVariants.{InvalidInput}
 use Rattle.mctp.specs.Terms.{normal_eid, tag_of, is_owner}
@@ -29,10 +26,6 @@ use Rattle.mctp.specs.Header.{header_of}
 use Rattle.slot.specs.declared.State.{State}
 use Rattle.slot.specs.declared.State.TheVariants.{Empty, Collecting, Done, HandleOut}
 use Rattle.slot.specs.declared.Reassembler.{Reassembler}
-use Rattle.reassemble.specs.declared.Entry.{Entry}
-use Rattle.reassemble.specs.declared.Entry.TheVariants.{Frees, Takes}
-use Rattle.reassemble.specs.declared.Gate.{Gate}
-use Rattle.reassemble.specs.declared.Gate.TheVariants.{Shut, Pass}
 use Rattle.slot.specs.Slot.{blank_slot, out_state, issue_is, handle_is, kept_under, listed, faded_slot, with_state, with_slot_cookie}
 use Rattle.slot.specs.Search.{slot_for, earliest}
 use Rattle.reassemble.specs.Enter.{enter, appended}
@@ -41,16 +34,10 @@ use Rattle.stamp.specs.Stamp.{next, clocked}
 use Rattle.state.specs.Stack.{Stack, slot_at, with_slot, ticked, with_stamp}
 use Rattle.slot_walks.specs.SlotWalks.{swept}
 use Rattle.slot.specs.declared.ReceiveHandle.{ReceiveHandle}
-use Rattle.receiving.specs.declared.Received.TheVariants.{Message as Told}
 use Rattle.slot.specs.Handle.{next_issue}
 use Rattle.receiving.specs.Conclude.{said_of, issue_after}
 use Rattle.receiving.specs.Receive.{Receipt, refuse, settled, land, gate_of, receive_at, receive_by, receive_of}
 use Rattle.sending.specs.declared.Send.{Send}
-use Rattle.sending.specs.declared.UnderTag.{UnderTag}
-use Rattle.sending.specs.declared.UnderTag.TheVariants.{Under, Refused as Untagged}
-use Rattle.sending.specs.declared.SendTag.{SendTag}
-use Rattle.sending.specs.declared.SendTag.TheVariants.{Fresh, Owned, Unowned}
-use Rattle.handles.specs.declared.Deferred.TheVariants.{Found}
 use Rattle.handles.specs.Handles as handles
 use Rattle.handles.specs.Handles.{Lookup, is_good, handled, finish_of, return_of, take_of, by_source_of}
 use Rattle.sending.specs.Sends.{Sent, owned_tag, tag_for, send_as, send_tagged, start_send_of}
@@ -62,6 +49,9 @@ use Rattle.promises.proofs.Facts.{no_true, is_false}
 use Rattle.promises.proofs.Slots.{passes_in}
 use Rattle.promises.proofs.Outcome.{Took, Outcome, quiet, dropped, took, receive_outcome}
 use Rattle.promises.proofs.Clock.{send_same}
+use Rattle.reassemble.specs.declared.Intake.{Intake}
+use Rattle.mctp.specs.declared.Tag.TheVariants.{Owned}
+use Rattle.mctp.specs.declared.Tag.TheVariants.{Unowned}
 
 -- ---- the count
 
@@ -178,16 +168,16 @@ cancel_numbers peer tag st =
 -- ---- by a send, by a new EID: the head alone
 
 module _ (q : Send) where
-  as_count : (c : UnderTag) (st : Stack) → (send_as q c st).stack.head.issue ≡ st.head.issue
+  as_count : (c : Result Tag Error) (st : Stack) → (send_as q c st).stack.head.issue ≡ st.head.issue
   unfolding send_as
-  as_count (Under tag) st = refl
-  as_count (Untagged err) st = refl
+  as_count (Ok tag) st = refl
+  as_count (Err err) st = refl
 
-  tag_count : (tag : SendTag) (st : Stack) → (tag_for q.dest tag q.expires q.cookie st).stack.head.issue ≡ st.head.issue
+  tag_count : (tag : Option Tag) (st : Stack) → (tag_for q.dest tag q.expires q.cookie st).stack.head.issue ≡ st.head.issue
   unfolding tag_for owned_tag
-  tag_count Fresh st = refl
-  tag_count (Owned tag) st = refl
-  tag_count (Unowned tag) st = refl
+  tag_count None st = refl
+  tag_count (Some (Owned tag)) st = refl
+  tag_count (Some (Unowned tag)) st = refl
 
   tagged_count : (st : Stack) → (send_tagged q (tag_for q.dest q.tag q.expires q.cookie st)).stack.head.issue ≡ st.head.issue
   tagged_count st =
@@ -204,22 +194,22 @@ module _ (q : Send) where
   send_numbers : (st : Stack) → Numbers st (start_send_of q st).stack
   send_numbers st = kept st (start_send_of q st).stack (send_same q st).slots (rw (send_count st) (le_refl st.head.issue))
 
-eid_numbers : (r : EidRead) (st : Stack) → Numbers st (eid_set r st).stack
-eid_numbers (Normal own) st = kept st (eid_set (Normal own) st).stack refl (le_refl st.head.issue)
-eid_numbers (NotNormal err) st = unmoved st
+eid_numbers : (r : Result Eid Error) (st : Stack) → Numbers st (eid_set r st).stack
+eid_numbers (Ok own) st = kept st (eid_set (Ok own) st).stack refl (le_refl st.head.issue)
+eid_numbers (Err err) st = unmoved st
 
 -- ---- by a receive
 
 -- the count n goes up or stays, and a handle that is told of has the next number, which is then the count
 pub record Counted (n : ℕ) (r : Receipt) : Type 0 where
   pub count : n ≤ r.stack.head.issue
-  pub next : (h : ReceiveHandle) → r.said ≡ Told h → (h.issue ≡ next_issue n) × (r.stack.head.issue ≡ next_issue n)
+  pub next : (h : ReceiveHandle) → r.said ≡ Ok (Some h) → (h.issue ≡ next_issue n) × (r.stack.head.issue ≡ next_issue n)
 
 after_grows : (whole : Bool) (n : ℕ) → n ≤ issue_after whole n
 after_grows true n = next_grows n
 after_grows false n = le_refl n
 
-told-next : (whole : Bool) (i n : ℕ) (h : ReceiveHandle) → said_of whole i (next_issue n) ≡ Told h
+told-next : (whole : Bool) (i n : ℕ) (h : ReceiveHandle) → said_of whole i (next_issue n) ≡ Ok (Some h)
     → (h.issue ≡ next_issue n) × (issue_after whole n ≡ next_issue n)
 told-next true i n h e = let z : record { index = i; issue = next_issue n } ≡ h = cc in (ap (λ (x : ReceiveHandle). x.issue) (sym z), refl)
 told-next false i n h e = (cc, cc)
@@ -228,19 +218,19 @@ refused : (err : Error) (st : Stack) → Counted st.head.issue (refuse err st)
 refused err st = record { count = le_refl st.head.issue; next = λ h e. (cc, cc) }
 
 module _ (B : ℕ) (st : Stack) (p : List ℕ) where
-  settled-counted : (i : ℕ) (st₁ : Stack) (k : Key) (e : Entry) → Counted st₁.head.issue (settled B i st₁ k p e)
-  settled-counted i st₁ k (Frees err) = refused err (with_slot i blank_slot st₁)
-  settled-counted i st₁ k (Takes t) = record { count = after_grows t.whole st₁.head.issue; next = told-next t.whole i st₁.head.issue }
+  settled-counted : (i : ℕ) (st₁ : Stack) (k : Key) (e : Result Intake Error) → Counted st₁.head.issue (settled B i st₁ k p e)
+  settled-counted i st₁ k (Err err) = refused err (with_slot i blank_slot st₁)
+  settled-counted i st₁ k (Ok t) = record { count = after_grows t.whole st₁.head.issue; next = told-next t.whole i st₁.head.issue }
 
-  land-counted : (i : ℕ) (st₁ : Stack) (h : Header) (g : Gate) → Counted st₁.head.issue (land B i st₁ h p g)
+  land-counted : (i : ℕ) (st₁ : Stack) (h : Header) (g : Result Reassembler Error) → Counted st₁.head.issue (land B i st₁ h p g)
   unfolding land
-  land-counted i st₁ h (Shut err) = refused err st₁
-  land-counted i st₁ h (Pass s) = settled-counted i (ticked st₁) h.key (enter B (next st₁.head.now) (next_issue st₁.head.issue) s h p)
+  land-counted i st₁ h (Err err) = refused err st₁
+  land-counted i st₁ h (Ok s) = settled-counted i (ticked st₁) h.key (enter B (next st₁.head.now) (next_issue st₁.head.issue) s h p)
 
-  at_counted : (i : ℕ) (r : HeaderRead) → Counted st.head.issue (receive_at B i st p r)
+  at_counted : (i : ℕ) (r : Option Header) → Counted st.head.issue (receive_at B i st p r)
   unfolding receive_at
-  at_counted i Bad = pick_cases (λ (x : Stack). Counted st.head.issue (refuse InvalidInput x)) (λ _. refused InvalidInput (ticked st)) (λ _. refused InvalidInput st)
-  at_counted i (Good h) =
+  at_counted i None = pick_cases (λ (x : Stack). Counted st.head.issue (refuse InvalidInput x)) (λ _. refused InvalidInput (ticked st)) (λ _. refused InvalidInput st)
+  at_counted i (Some h) =
       pick_cases (λ (x : Stack). Counted st.head.issue (land B i x h p (gate_of i st h))) (λ _. land-counted i (ticked st) h (gate_of i st h))
       (λ _. land-counted i st h (gate_of i st h))
 
@@ -299,14 +289,14 @@ counts_grow B [] w = le_refl w.stack.head.issue
 counts_grow B (c ∷ cs) w = omega (arith, count_grows B c w, counts_grow B cs (step B c w))
 
 -- the number of a handle that goes out is the count after it: with a received message, and with a deferred one
-pub told-counted : (B : ℕ) (p : List ℕ) (w : World) (h : ReceiveHandle) → (receipt B p w).said ≡ Told h → h.issue ≡ (step B (receive p) w).stack.head.issue
+pub told-counted : (B : ℕ) (p : List ℕ) (w : World) (h : ReceiveHandle) → (receipt B p w).said ≡ Ok (Some h) → h.issue ≡ (step B (receive p) w).stack.head.issue
 unfolding step
 told-counted B p w h e = let n = (receive_counted B w.stack p (length w.pool)).next h e in n.0 ∙ sym n.1
 
-pub found_counted : (st : Stack) (i : ℕ) (h : ReceiveHandle) → (take_of i st).said ≡ Found h → h.issue ≡ (take_of i st).stack.head.issue
+pub found_counted : (st : Stack) (i : ℕ) (h : ReceiveHandle) → (take_of i st).said ≡ Some h → h.issue ≡ (take_of i st).stack.head.issue
 unfolding take_of
 found_counted st i h =
-    pick_cases (λ (r : Lookup). r.said ≡ Found h → h.issue ≡ r.stack.head.issue)
+    pick_cases (λ (r : Lookup). r.said ≡ Some h → h.issue ≡ r.stack.head.issue)
     (λ _ e. let z : record { index = i; issue = next_issue st.head.issue } ≡ h = cc in ap (λ (x : ReceiveHandle). x.issue) (sym z))
     (λ _ e. cc)
 

@@ -7,10 +7,10 @@ use mathlib.Core.Bool.{Bool, true, false}
 use mathlib.Core.List.{List, [], ◌∷◌, ◌++◌, append-nil}
 use lib.ListN.{length, get_or, set, length-set}
 use lib.Seq.{get_or-set_other}
+use Rattle.std.specs.Prelude.{Option}
 use Rattle.octets.specs.Pick.{pick, pick_true}
 use Rattle.octets.specs.Bytes.{part, over}
 use Rattle.mctp.specs.declared.Key.{Key}
-use Rattle.mctp.specs.declared.Cookie.{Cookie}
 use Rattle.mctp.specs.declared.Header.{Header}
 use Rattle.stamp.specs.declared.EventStamp.{EventStamp}
 use Rattle.slot.specs.declared.Reassembler.{Reassembler}
@@ -27,6 +27,7 @@ use Rattle.promises.proofs.Slots.{idle-collects, parts, get_d_set_default}
 use Rattle.promises.proofs.Pool.{body_at, body_append}
 use Rattle.promises.proofs.Walks.{Changed, stays, goes, Touches}
 use Rattle.promises.proofs.Since.{gathered_snoc, due, due_snoc, numbered_snoc, all_snoc, opens_snoc, opens_as}
+use Rattle.mctp.specs.declared.AppCookie.{AppCookie}
 
 -- the slot s at place i holds what the packets l brought
 pub record Story (B : ℕ) (pool : List ℕ) (i : ℕ) (l : List Taken) (s : Reassembler) : Type 0 where
@@ -78,7 +79,7 @@ blank_shrinks l i = record { stood = λ K k c. stand K k (ℕ_discrete k i) c; c
 -- ---- one more packet in a story
 
 -- the packet p with header h, taken into the slot s at place i
-module _ (B i : ℕ) (p : List ℕ) (h : Header) (lent : Bool) (cookie : Cookie) (pool : List ℕ) (s : Reassembler) (now : EventStamp) (issue : ℕ)
+module _ (B i : ℕ) (p : List ℕ) (h : Header) (lent : Bool) (cookie : Option AppCookie) (pool : List ℕ) (s : Reassembler) (now : EventStamp) (issue : ℕ)
     (number : h.seq ≡ s.next_seq) (fits : s.len + length (body_in p) ≤ B) (holds : B * i + B ≤ length pool) where
   abbrev t : Taken
   t = record { header = h; packet = p; here = lent; cookie = cookie }

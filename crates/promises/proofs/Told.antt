@@ -5,19 +5,16 @@ use mathlib.Core.Path.{◌≡◌, refl, sym, ap, ◌∙◌, subst}
 use mathlib.Core.Bool.{Bool, true, false}
 use mathlib.Core.List.{List, [], ◌∷◌}
 use lib.ListN.{length}
+use Rattle.std.specs.Prelude.{None, Ok, Option, Result, Some}
 use Rattle.octets.specs.Pick.{pick, pick_cases}
 use Rattle.mctp.specs.declared.Key.{Key}
 use Rattle.mctp.specs.declared.Header.{Header}
-use Rattle.mctp.specs.declared.HeaderRead.{HeaderRead}
-use Rattle.mctp.specs.declared.HeaderRead.TheVariants.{Good, Bad}
 use Rattle.mctp.specs.Header.{header_of}
 use Rattle.slot.specs.declared.Reassembler.{Reassembler}
 use Rattle.slot.specs.Slot.{is_empty}
 use Rattle.state.specs.Stack.{Stack}
 use Rattle.mctp.specs.Answer.{gives}
 use Rattle.slot.specs.declared.ReceiveHandle.{ReceiveHandle}
-use Rattle.receiving.specs.declared.Received.{Received}
-use Rattle.receiving.specs.declared.Received.TheVariants.{Message as Handed}
 use Rattle.receiving.specs.Conclude.{said_of}
 use Rattle.slot.specs.Handle.{handle_words}
 use Rattle.receiving.specs.Receive.{Receipt, receive_of}
@@ -33,14 +30,15 @@ use Rattle.promises.proofs.Since.{since_all}
 use Rattle.promises.proofs.Story.{Story, Inv}
 use Rattle.promises.proofs.Taking.{taken, pool_now, slot_now, own, here_slot, key_now}
 use Rattle.promises.proofs.Runs.{after, log, took_log, took_pool, steps_inv, fresh_inv}
+use Rattle.mctp.specs.declared.Error.{Error}
 
 -- the handle belongs to the slot that took the packet
-pub index_is : (b : Bool) (i n : ℕ) (h : ReceiveHandle) → said_of b i n ≡ Handed h → i ≡ h.index
+pub index_is : (b : Bool) (i n : ℕ) (h : ReceiveHandle) → said_of b i n ≡ Ok (Some h) → i ≡ h.index
 index_is true i n h e = let z : record { index = i; issue = n } ≡ h = cc in ap (λ (x : ReceiveHandle). x.index) z
 index_is false i n h e = let z : i ≡ h.index = cc in z
 
 -- a slot's story tells of the message in it
-story_exact : (B : ℕ) (pool p : List ℕ) (i : ℕ) (H : List Taken) (s : Reassembler) (h : Header) → header_of p ≡ Good h → s.key ≡ h.key
+story_exact : (B : ℕ) (pool p : List ℕ) (i : ℕ) (H : List Taken) (s : Reassembler) (h : Header) → header_of p ≡ Some h → s.key ≡ h.key
     → Story B pool i (since h.key H) s → Exactly (read_from pool (message_in B i s)) p H
 story_exact B pool p i H s h read key o =
     let o' : Story B pool i (since s.key H) s = subst (λ (K : Key). Story B pool i (since K H) s) (sym key) o in
@@ -60,7 +58,7 @@ module _ (B : ℕ) (H : List Taken) (w : World) (v : Inv B H w) (p : List ℕ) (
       (story_exact B (pool_now B H w v p true r i g t) p i (taken B H w v p true r i g t ∷ H) (slot_now B H w v p true r i g t) g t.read
       (key_now B H w v p true r i g t) (own B H w v p true r i g t))
 
-  outcome_exact : (r : Receipt) → Outcome B w.stack p r → r.said ≡ Handed h
+  outcome_exact : (r : Receipt) → Outcome B w.stack p r → r.said ≡ Ok (Some h)
       → Exactly (message_at B h.index (after B H w v p true r)) p (log B H w v p true r)
   outcome_exact r (quiet s b n) e = absurd (no_both (takes r.said) (rw e) n)
   outcome_exact r (dropped i g read src s b n) e = absurd (no_both (takes r.said) (rw e) n)
@@ -87,12 +85,12 @@ told B w₀ e room cs p h said =
 abbrev lent : List Taken → Bool
 lent H = all_of (λ t. t.here) H
 
-noted_here : (said : Received) (st : Stack) (r : HeaderRead) (p : List ℕ) (H : List Taken) → lent H ≡ true → lent (pick (takes said) (note st true r p H) H) ≡ true
+noted_here : (said : Result (Option ReceiveHandle) Error) (st : Stack) (r : Option Header) (p : List ℕ) (H : List Taken) → lent H ≡ true → lent (pick (takes said) (note st true r p H) H) ≡ true
 noted_here said st r p H a = pick_cases (λ (l : List Taken). lent l ≡ true) (λ _. one r) (λ _. a)
   where
-    one : (r : HeaderRead) → lent (note st true r p H) ≡ true
-    one (Good h) = a
-    one Bad = a
+    one : (r : Option Header) → lent (note st true r p H) ≡ true
+    one (Some h) = a
+    one None = a
 
 logged_here : (B : ℕ) (c : Call) → lent_here c ≡ true → (w : World) (H : List Taken) → lent H ≡ true → lent (logged B c w H) ≡ true
 unfolding logged noted

@@ -2,16 +2,13 @@
 -- B is the most bytes that a body holds.
 -- A receive comes in two kinds: it is lent the watched pool, or any other buffer. No other call writes a pool.
 -- Leans on the definitions that the contracts of `estack` cite, and on nothing else.
-use Rattle.std.specs.Prelude.{ℕ, ◌+◌, Bool, true, false, not, ◌&&◌, List, [], ◌∷◌, leb, length}
+use Rattle.std.specs.Prelude.{ℕ, ◌+◌, Bool, true, false, not, ◌&&◌, List, [], ◌∷◌, leb, length, None, Option, Some}
 use Rattle.config.specs.Config.{slot_time}
 use Rattle.octets.specs.Bytes.{over}
 use Rattle.mctp.specs.declared.Eid.{Eid}
 use Rattle.mctp.specs.declared.TagValue.{TagValue}
 use Rattle.mctp.specs.declared.Tag.{Tag}
 use Rattle.mctp.specs.declared.Key.{Key}
-use Rattle.mctp.specs.declared.Cookie.{Cookie}
-use Rattle.mctp.specs.declared.HeaderRead.{HeaderRead}
-use Rattle.mctp.specs.declared.HeaderRead.TheVariants.{Good, Bad}
 use Rattle.mctp.specs.Terms.{same_key, same_eid, same_tag}
 use Rattle.mctp.specs.Header.{header_of}
 use Rattle.mctp.specs.Answer.{Answer, gives, flag_word}
@@ -25,6 +22,8 @@ use Rattle.handles.specs.Handles.{done_as, fetched_as, deferred_as, fetch_of, fi
 use Rattle.sending.specs.Sends.{start_send_of}
 use Rattle.updating.specs.Update.{updated_as, update_of}
 use Rattle.estack.specs.Basics.{set_eid_of, local_of, cancel_of, free_tags_of}
+use Rattle.mctp.specs.declared.AppCookie.{AppCookie}
+use Rattle.mctp.specs.declared.Header.{Header}
 
 pub data Call : Type 0 where
   receive : List ℕ → Call  -- a packet, lent the pool that we watch
@@ -37,7 +36,7 @@ pub data Call : Type 0 where
   fetch_message : ReceiveHandle → ℕ → Call
   finished_receive : ReceiveHandle → Call
   return_handle : ReceiveHandle → Call
-  set_cookie : ReceiveHandle → Cookie → Call
+  set_cookie : ReceiveHandle → Option AppCookie → Call
   set_eid : ℕ → Call
   eid : Call
   is_local_dest : List ℕ → Call
@@ -95,9 +94,9 @@ steps B [] w = w
 steps B (c ∷ cs) w = steps B cs (step B c w)
 
 -- whether a header is good and has that key
-abbrev pub has_key : Key → HeaderRead → Bool
-has_key K (Good h) = same_key h.key K
-has_key K Bad = false
+abbrev pub has_key : Key → Option Header → Bool
+has_key K (Some h) = same_key h.key K
+has_key K None = false
 
 -- whether a message of that key is a reply of that peer and tag
 abbrev pub reply_of : Key → Eid → TagValue → Bool

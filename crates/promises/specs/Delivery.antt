@@ -1,15 +1,13 @@
 -- What it means that a message is delivered: its packets come in order, with calls between, none before the last hands anything out, and the last hands out
 -- exactly that message. And what demand 3 asks of the state at the first fragment.
 -- Leans on `Calls`, and on `fragment` for what DSP0236 calls a message in packets.
-use Rattle.std.specs.Prelude.{ℕ, ◌*◌, ◌≤◌, ◌≡◌, Bool, true, false, ◌&&◌, ◌||◌, List, [], ◌∷◌, ltb, length}
+use Rattle.std.specs.Prelude.{ℕ, ◌*◌, ◌≤◌, ◌≡◌, Bool, true, false, ◌&&◌, ◌||◌, List, [], ◌∷◌, ltb, length, None, Ok, Option}
 use Rattle.octets.specs.Pick.{pick}
 use Rattle.octets.specs.Find.{find}
 use Rattle.octets.specs.Bytes.{part}
 use Rattle.mctp.specs.declared.Key.{Key}
 use Rattle.mctp.specs.declared.MsgType.{MsgType}
 use Rattle.mctp.specs.declared.MsgIC.{MsgIC}
-use Rattle.mctp.specs.declared.Cookie.{Cookie}
-use Rattle.mctp.specs.declared.Cookie.TheVariants.{Absent}
 use Rattle.mctp.specs.Terms.{same_eid, any_eid}
 use Rattle.mctp.specs.Answer.{gives}
 use Rattle.flows.specs.Table.{standing, flow_cookie}
@@ -20,9 +18,9 @@ use Rattle.fragment.specs.Cutting.{Carries}
 use Rattle.slot.specs.declared.ReceiveHandle.{ReceiveHandle}
 use Rattle.slot.specs.Handle.{handle_words}
 use Rattle.handles.specs.declared.Message.{Message as Facts}
-use Rattle.handles.specs.declared.Fetched.TheVariants.{Message as Fetch}
 use Rattle.handles.specs.Handles.{message_in, fetch_of}
 use Rattle.promises.specs.Calls.{World, Call, receive, step, steps, performed, permitted}
+use Rattle.mctp.specs.declared.AppCookie.{AppCookie}
 
 -- what is handed out: key, type, IC, body and cookie
 pub record Message : Type 0 where
@@ -30,7 +28,7 @@ pub record Message : Type 0 where
   pub typ : MsgType
   pub ic : MsgIC
   pub body : List ℕ
-  pub cookie : Cookie
+  pub cookie : Option AppCookie
 
 -- a fetched message with its body read from the pool
 abbrev pub read_from : List ℕ → Facts → Message
@@ -45,7 +43,7 @@ pub record Hands (B : ℕ) (m : Message) (p : List ℕ) (w : World) : Type 0 whe
   pub handle : ReceiveHandle
   pub told : performed B (receive p) w ≡ gives (handle_words handle)
   pub facts : Facts
-  pub fetched : fetch_of B handle (step B (receive p) w).stack (length (step B (receive p) w).pool) ≡ Fetch facts
+  pub fetched : fetch_of B handle (step B (receive p) w).stack (length (step B (receive p) w).pool) ≡ Ok facts
   pub message : read_from (step B (receive p) w).pool facts ≡ m
 
 -- the calls before the next packet, and those after it
@@ -81,10 +79,10 @@ abbrev pub ready : Key → Stack → Bool
 ready K st = collecting K st || (vacancy st && (K.owner || standing K.source K.tag st.flows))
 
 -- the cookie of rules 42 and 46: a collecting slot keeps its own; else a reply has its flow's, and any other message none
-abbrev pub cookie_for : Key → Stack → Cookie
+abbrev pub cookie_for : Key → Stack → Option AppCookie
 cookie_for K st =
     pick (collecting K st) (slot_at (find (collects K) st.slots) st).cookie
-    (pick K.owner Absent (flow_cookie K.source K.tag st.flows))
+    (pick K.owner None (flow_cookie K.source K.tag st.flows))
 
 -- demand 3's premises at the first fragment, in the world w: these packets carry the body as one message; the body has at most B bytes; the source is not 255;
 -- the destination is 0 or the own EID; there is a slot for it; the pool is long enough; and only permitted calls come between the fragments

@@ -1,31 +1,24 @@
 -- The figures of docs/RULES.md, section 11, as one table: what the definitions give for each, and what that section says.
 -- Each starts on a fresh stack of 4 slots of 1,032 bytes, own EID 8, clock 0; the pool is 4,128 zero bytes.
 -- Leans on `Calls` and the definitions of `estack` and `fragment`.
-use Rattle.std.specs.Prelude.{ℕ, ◌≡◌, Bool, true, false, List, [], ◌∷◌, ◌++◌, map, replicate}
-use Rattle.mctp.specs.declared.Cookie.TheVariants.{Absent}
+use Rattle.std.specs.Prelude.{ℕ, ◌≡◌, Bool, true, false, List, [], ◌∷◌, ◌++◌, map, replicate, Err, None, Ok, Option, Result, Some}
 use Rattle.mctp.specs.Terms.{error_no, tag_of}
 use Rattle.slot.specs.Slot.{is_empty}
 use Rattle.fragment.specs.declared.Fragmenter.{Fragmenter}
 use Rattle.fragment.specs.declared.SendOutput.{SendOutput}
 use Rattle.fragment.specs.declared.SendOutput.TheVariants.{Packet, Complete, Error as Failed}
-use Rattle.fragment.specs.declared.Started.{Started}
-use Rattle.fragment.specs.declared.Started.TheVariants.{Sends, Refused as Unsent}
 use Rattle.fragment.specs.Step.{step_of}
 use Rattle.fragment.specs.Run.{written}
 use Rattle.state.specs.Stack.{Stack, slot_at}
-use Rattle.receiving.specs.declared.Received.{Received}
-use Rattle.receiving.specs.declared.Received.TheVariants.{More, Message as Told, Refused as Unreceived}
-use Rattle.updating.specs.declared.Updated.{Updated}
-use Rattle.updating.specs.declared.Updated.TheVariants.{Next, Refused as Unmoved}
 use Rattle.sending.specs.declared.Send.{Send}
-use Rattle.sending.specs.declared.SendTag.TheVariants.{Fresh}
-use Rattle.sending.specs.declared.SendMtu.{SendMtu}
-use Rattle.sending.specs.declared.SendMtu.TheVariants.{Own, AtMost}
 use Rattle.sending.specs.Sends.{start_send_of}
 use Rattle.updating.specs.Update.{update_of}
 use Rattle.estack.specs.Basics.{fresh_stack}
 use Rattle.promises.specs.Calls.{World, receive, update, step, receipt}
 use Rattle.promises.specs.Delivery.{Message, message_at}
+use Rattle.mctp.specs.declared.Error.{Error}
+use Rattle.updating.specs.declared.Next.{Next}
+use Rattle.slot.specs.declared.ReceiveHandle.{ReceiveHandle}
 
 -- what a figure shows
 pub data Shown : Type 0 where
@@ -43,28 +36,28 @@ abbrev pub bay : ℕ → World
 bay mtu = record { stack = fresh_stack (record { slots = 4; body = 1032 }) (record { 0 = 8 }) mtu 0; pool = replicate 4128 0 }
 
 -- a message of type 1 to a peer, under a fresh tag, with an expiry
-abbrev pub question : ℕ → SendMtu → Send
+abbrev pub question : ℕ → Option ℕ → Send
 question peer mtu = record {
   dest = record { 0 = peer };
   typ = record { 0 = 1 };
-  tag = Fresh;
+  tag = None;
   expires = true;
   ic = record { 0 = false };
   mtu = mtu;
-  cookie = Absent;
+  cookie = None;
 }
 
-abbrev pub started : (Fragmenter → List Shown) → Started → List Shown
-started f (Sends g) = f g
-started f (Unsent err) = refused (error_no err) ∷ []
+abbrev pub started : (Fragmenter → List Shown) → Result Fragmenter Error → List Shown
+started f (Ok g) = f g
+started f (Err err) = refused (error_no err) ∷ []
 
 -- the packets that a send writes, with buffers of these sizes
-abbrev pub sent : ℕ → SendMtu → List ℕ → List ℕ → List Shown
+abbrev pub sent : ℕ → Option ℕ → List ℕ → List ℕ → List Shown
 sent mtu most payload buffers = started (λ f. map packet (written f payload buffers)) (start_send_of (question 9 most) (bay mtu).stack).said
 
 -- whether a send with that MTU is taken
 abbrev pub tried : ℕ → ℕ → List Shown
-tried mtu most = started (λ f. taken ∷ []) (start_send_of (question 9 (AtMost most)) (bay mtu).stack).said
+tried mtu most = started (λ f. taken ∷ []) (start_send_of (question 9 (Some most)) (bay mtu).stack).said
 
 abbrev pub stepped : SendOutput → Shown
 stepped (Packet n) = taken
@@ -73,31 +66,31 @@ stepped (Failed err c) = refused (error_no err)
 
 -- the first step of a send, with a buffer of that size
 abbrev pub first_step : ℕ → List Shown
-first_step n = started (λ f. stepped (step_of f (0xAA ∷ 0xBB ∷ 0xCC ∷ []) n).result.output ∷ []) (start_send_of (question 9 Own) (bay 255).stack).said
+first_step n = started (λ f. stepped (step_of f (0xAA ∷ 0xBB ∷ 0xCC ∷ []) n).result.output ∷ []) (start_send_of (question 9 None) (bay 255).stack).said
 
 -- the tags of sends to these peers, one after the other
 unfoldable pub tags : List ℕ → Stack → List Shown
 tags [] st = []
 tags (peer ∷ l) st =
-    let r = start_send_of (question peer Own) st in
+    let r = start_send_of (question peer None) st in
     started (λ f. tag (tag_of f.tag).0 ∷ []) r.said ++ tags l r.stack
 
 abbrev pub shown : Message → Shown
 shown m = message m.key.source.0 m.typ.0 m.body
 
 -- what a packet is answered, with the message under its handle
-abbrev pub told : Received → World → Shown
-told More w = more
-told (Told h) w = shown (message_at 1032 h.index w)
-told (Unreceived err) w = refused (error_no err)
+abbrev pub told : Result (Option ReceiveHandle) Error → World → Shown
+told (Ok None) w = more
+told (Ok (Some h)) w = shown (message_at 1032 h.index w)
+told (Err err) w = refused (error_no err)
 
 -- what a packet is answered, and whether slot 0 is then empty
 abbrev pub got : List ℕ → World → List Shown
 got p w = told (receipt 1032 p w).said (step 1032 (receive p) w) ∷ empty (is_empty (slot_at 0 (step 1032 (receive p) w).stack)) ∷ []
 
-abbrev pub moved : Updated → Shown
-moved (Next millis expired) = checked millis expired
-moved (Unmoved err) = refused (error_no err)
+abbrev pub moved : Result Next Error → Shown
+moved (Ok next) = checked next.millis next.expired
+moved (Err err) = refused (error_no err)
 
 -- what updates are answered, one after the other
 abbrev pub updates : List ℕ → World → List Shown
@@ -119,15 +112,15 @@ pub record Row : Type 0 where
 
 -- send to 9, type 1, fresh tag, AA BB CC
 abbrev pub cut_once : Row
-cut_once = record { given = sent 255 Own (0xAA ∷ 0xBB ∷ 0xCC ∷ []) (255 ∷ 255 ∷ []); said = packet (0x01 ∷ 0x09 ∷ 0x08 ∷ 0xD9 ∷ 0x01 ∷ 0xAA ∷ 0xBB ∷ 0xCC ∷ []) ∷ [] }
+cut_once = record { given = sent 255 None (0xAA ∷ 0xBB ∷ 0xCC ∷ []) (255 ∷ 255 ∷ []); said = packet (0x01 ∷ 0x09 ∷ 0x08 ∷ 0xD9 ∷ 0x01 ∷ 0xAA ∷ 0xBB ∷ 0xCC ∷ []) ∷ [] }
 
 -- the same with MTU 6
 abbrev pub cut_twice : Row
-cut_twice = record { given = sent 255 (AtMost 6) (0xAA ∷ 0xBB ∷ 0xCC ∷ []) (255 ∷ 255 ∷ 255 ∷ []); said = packet (0x01 ∷ 0x09 ∷ 0x08 ∷ 0x99 ∷ 0x01 ∷ 0xAA ∷ []) ∷ packet (0x01 ∷ 0x09 ∷ 0x08 ∷ 0x69 ∷ 0xBB ∷ 0xCC ∷ []) ∷ [] }
+cut_twice = record { given = sent 255 (Some 6) (0xAA ∷ 0xBB ∷ 0xCC ∷ []) (255 ∷ 255 ∷ 255 ∷ []); said = packet (0x01 ∷ 0x09 ∷ 0x08 ∷ 0x99 ∷ 0x01 ∷ 0xAA ∷ []) ∷ packet (0x01 ∷ 0x09 ∷ 0x08 ∷ 0x69 ∷ 0xBB ∷ 0xCC ∷ []) ∷ [] }
 
 -- send nothing
 abbrev pub cut_nothing : Row
-cut_nothing = record { given = sent 255 Own [] (255 ∷ 255 ∷ []); said = packet (0x01 ∷ 0x09 ∷ 0x08 ∷ 0xD9 ∷ 0x01 ∷ []) ∷ [] }
+cut_nothing = record { given = sent 255 None [] (255 ∷ 255 ∷ []); said = packet (0x01 ∷ 0x09 ∷ 0x08 ∷ 0xD9 ∷ 0x01 ∷ []) ∷ [] }
 
 -- with a stack MTU of 300, sends with MTU 4 and 256 are refused, and those with 5 and 255 are taken
 abbrev pub mtus : Row

@@ -1,41 +1,39 @@
 -- What was taken: the packets that a stack answered with "more" or a message, newest first.
 -- And which of them belong to a key since its newest opening packet.
 -- Leans on `Calls`, and on `mctp` for headers and keys.
-use Rattle.std.specs.Prelude.{ℕ, ◌+◌, ◌%◌, ◌≡◌, Bool, true, false, not, ◌&&◌, List, [], ◌∷◌, ◌++◌, eqb, get_or}
+use Rattle.std.specs.Prelude.{ℕ, ◌+◌, ◌%◌, ◌≡◌, Bool, true, false, not, ◌&&◌, List, [], ◌∷◌, ◌++◌, eqb, get_or, Err, None, Ok, Option, Result, Some}
 use Rattle.octets.specs.Pick.{pick}
 use Rattle.mctp.specs.declared.Key.{Key}
 use Rattle.mctp.specs.declared.Header.{Header}
-use Rattle.mctp.specs.declared.HeaderRead.{HeaderRead}
-use Rattle.mctp.specs.declared.HeaderRead.TheVariants.{Good, Bad}
-use Rattle.mctp.specs.declared.Cookie.{Cookie}
 use Rattle.mctp.specs.Terms.{same_key}
 use Rattle.mctp.specs.Header.{header_of, type_of}
 use Rattle.fragment.specs.Cutting.{body_in}
-use Rattle.receiving.specs.declared.Received.{Received}
-use Rattle.receiving.specs.declared.Received.TheVariants.{More, Message as Told, Refused}
 use Rattle.receiving.specs.Receive.{receive_of}
 use Rattle.state.specs.Stack.{Stack}
 use Rattle.promises.specs.Calls.{World, Call, receive, elsewhere, update, start_send, cancel_flow, get_deferred, get_deferred_by_cookie, fetch_message, finished_receive, return_handle, set_cookie, set_eid, eid, is_local_dest, free_tags, step, receipt, has_key}
 use Rattle.promises.specs.Delivery.{Message, all_of, cookie_for}
+use Rattle.mctp.specs.declared.AppCookie.{AppCookie}
+use Rattle.mctp.specs.declared.Error.{Error}
+use Rattle.slot.specs.declared.ReceiveHandle.{ReceiveHandle}
 
 -- a packet that was taken: its header, its bytes, whether the pool that we watch was lent, and the cookie that its key had
 pub record Taken : Type 0 where
   pub header : Header
   pub packet : List ℕ
   pub here : Bool
-  pub cookie : Cookie
+  pub cookie : Option AppCookie
 
-abbrev pub takes : Received → Bool
-takes More = true
-takes (Told h) = true
-takes (Refused err) = false
+abbrev pub takes : Result (Option ReceiveHandle) Error → Bool
+takes (Ok None) = true
+takes (Ok (Some h)) = true
+takes (Err err) = false
 
-abbrev pub note : Stack → Bool → HeaderRead → List ℕ → List Taken → List Taken
-note st here Bad p H = H
-note st here (Good h) p H = record { header = h; packet = p; here = here; cookie = cookie_for h.key st } ∷ H
+abbrev pub note : Stack → Bool → Option Header → List ℕ → List Taken → List Taken
+note st here None p H = H
+note st here (Some h) p H = record { header = h; packet = p; here = here; cookie = cookie_for h.key st } ∷ H
 
 -- the history after one more packet that was answered so
-unfoldable pub noted : Received → Stack → Bool → List ℕ → List Taken → List Taken
+unfoldable pub noted : Result (Option ReceiveHandle) Error → Stack → Bool → List ℕ → List Taken → List Taken
 noted said st here p H = pick (takes said) (note st here (header_of p) p H) H
 
 unfoldable pub logged : ℕ → Call → World → List Taken → List Taken

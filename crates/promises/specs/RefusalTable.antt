@@ -1,16 +1,14 @@
 -- Each refusal of `refusals_of` is met: a table of calls and worlds, a row for each kind of call, and what each is answered.
 -- The stacks are a board's, of 4 slots of 1,032 bytes with own EID 8. Leans on `Refusals` and `Figures`.
-use Rattle.std.specs.Prelude.{ℕ, ◌≡◌, true, false, replicate}
+use Rattle.std.specs.Prelude.{ℕ, ◌≡◌, true, false, replicate, None, Some}
 use mathlib.Core.List.{List, [], ◌∷◌, map, flatten}
-use Rattle.mctp.specs.declared.Cookie.TheVariants.{Absent}
 use Rattle.mctp.specs.Answer.{Answer, refuses}
 use Rattle.slot.specs.declared.ReceiveHandle.{ReceiveHandle}
 use Rattle.sending.specs.declared.Send.{Send}
-use Rattle.sending.specs.declared.SendTag.TheVariants.{Fresh, Owned}
-use Rattle.sending.specs.declared.SendMtu.TheVariants.{Own, AtMost}
 use Rattle.promises.specs.Calls.{Call, receive, elsewhere, update, start_send, cancel_flow, fetch_message, finished_receive, return_handle, set_cookie, set_eid, World, step, performed}
 use Rattle.promises.specs.Figures.{bay, question, whole}
 use Rattle.promises.specs.Refusals.{refusals_of}
+use Rattle.mctp.specs.declared.Tag.TheVariants.{Owned}
 
 -- a call in a world
 pub record Tried : Type 0 where
@@ -45,12 +43,12 @@ reply = 0x01 ∷ 0x08 ∷ 0x09 ∷ 0xC1 ∷ 0x01 ∷ 0x2A ∷ []
 
 -- a question of a type above 127
 abbrev pub bad_question : Send
-bad_question = record { dest = record { 0 = 9 }; typ = record { 0 = 128 }; tag = Fresh; expires = true; ic = record { 0 = false }; mtu = Own; cookie = Absent }
+bad_question = record { dest = record { 0 = 9 }; typ = record { 0 = 128 }; tag = None; expires = true; ic = record { 0 = false }; mtu = None; cookie = None }
 
 -- after a question to each of these peers
 unfoldable pub asks : List ℕ → World → World
 asks [] w = w
-asks (peer ∷ l) w = asks l (step 1032 (start_send (question peer Own)) w)
+asks (peer ∷ l) w = asks l (step 1032 (start_send (question peer None)) w)
 
 -- after packets that open messages, each with its byte of flags
 unfoldable pub opens : List ℕ → World → World
@@ -73,11 +71,11 @@ abbrev pub fixed_question : ℕ → ℕ → Send
 fixed_question peer tag = record {
   dest = record { 0 = peer };
   typ = record { 0 = 1 };
-  tag = Owned (record { 0 = tag });
+  tag = Some (Owned (record { 0 = tag }));
   expires = true;
   ic = record { 0 = false };
-  mtu = Own;
-  cookie = Absent;
+  mtu = None;
+  cookie = None;
 }
 
 -- after eight questions to each of eight peers: every place of the table is taken
@@ -111,8 +109,8 @@ abbrev pub send_row : Row
 send_row = record {
   tried =
       try (start_send bad_question) (bay 255)
-      ∷ try (start_send (question 9 (AtMost 4))) (bay 255)
-      ∷ try (start_send (question 9 Own)) (asks (replicate 8 9) (bay 255))
+      ∷ try (start_send (question 9 (Some 4))) (bay 255)
+      ∷ try (start_send (question 9 None)) (asks (replicate 8 9) (bay 255))
       ∷ [];
   numbers = refusals_of (start_send bad_question);
 }
@@ -138,7 +136,7 @@ abbrev pub return_row : Row
 return_row = record { tried = try (return_handle no_handle) (bay 255) ∷ []; numbers = refusals_of (return_handle no_handle) }
 
 abbrev pub cookie_row : Row
-cookie_row = record { tried = try (set_cookie no_handle Absent) (bay 255) ∷ []; numbers = refusals_of (set_cookie no_handle Absent) }
+cookie_row = record { tried = try (set_cookie no_handle None) (bay 255) ∷ []; numbers = refusals_of (set_cookie no_handle None) }
 
 -- an EID below 8
 abbrev pub eid_row : Row
@@ -166,7 +164,7 @@ send_ways = record {
   tried =
       try (start_send (fixed_question 9 8)) (bay 255)
       ∷ try (start_send (fixed_question 9 1)) (asks (9 ∷ []) (bay 255))
-      ∷ try (start_send (question 17 Own)) crowded_bay
+      ∷ try (start_send (question 17 None)) crowded_bay
       ∷ try (start_send (fixed_question 17 1)) crowded_bay
       ∷ [];
   numbers = 1 ∷ 3 ∷ 4 ∷ 4 ∷ [];

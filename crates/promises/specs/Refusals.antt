@@ -1,13 +1,11 @@
 -- docs/RULES.md 13 to 16: which refusals a call can give, by number, when each is given, and what it leaves of the stack.
 -- Leans on `Calls`, and on the definitions of each call for its tests.
-use Rattle.std.specs.Prelude.{ℕ, ◌+◌, ◌-◌, ◌*◌, ◌%◌, ◌≤◌, ◌<◌, ◌≡◌, ◌⊎◌, ◌≢◌, Bool, true, false, ◌&&◌, ◌||◌, List, [], ◌∷◌, ltb, eqb, length, get_or}
+use Rattle.std.specs.Prelude.{ℕ, ◌+◌, ◌-◌, ◌*◌, ◌%◌, ◌≤◌, ◌<◌, ◌≡◌, ◌⊎◌, ◌≢◌, Bool, true, false, ◌&&◌, ◌||◌, List, [], ◌∷◌, ltb, eqb, length, get_or, None, Option, Some}
 use Rattle.config.specs.Config.{min_mtu, max_mtu}
 use Rattle.octets.specs.Pick.{pick}
 use Rattle.octets.specs.Find.{find}
 use Rattle.mctp.specs.declared.Eid.{Eid}
 use Rattle.mctp.specs.declared.TagValue.{TagValue}
-use Rattle.mctp.specs.declared.HeaderRead.{HeaderRead}
-use Rattle.mctp.specs.declared.HeaderRead.TheVariants.{Good, Bad}
 use Rattle.mctp.specs.Terms.{cookie_no, cookie_value}
 use Rattle.mctp.specs.Header.{header_of}
 use Rattle.flows.specs.Table.{no_flow, is_free, flow_place, standing, lasts, counted}
@@ -21,14 +19,14 @@ use Rattle.state.specs.declared.Head.{Head}
 use Rattle.state.specs.Head.{with_next_tag, with_now}
 use Rattle.state.specs.Stack.{Stack, slot_at, with_head, with_slot, ticked}
 use Rattle.sending.specs.declared.Send.{Send}
-use Rattle.sending.specs.declared.SendTag.{SendTag}
-use Rattle.sending.specs.declared.SendTag.TheVariants.{Fresh, Owned, Unowned}
-use Rattle.sending.specs.declared.SendMtu.{SendMtu}
-use Rattle.sending.specs.declared.SendMtu.TheVariants.{AtMost}
 use Rattle.sending.specs.Sends.{bad_tag, mtu_of, start_send_of}
 use Rattle.handles.specs.Handles.{is_good}
 use Rattle.estack.specs.Basics.{free_tags_of}
 use Rattle.promises.specs.Calls.{Call, receive, elsewhere, update, start_send, cancel_flow, get_deferred, get_deferred_by_cookie, fetch_message, finished_receive, return_handle, set_cookie, set_eid, eid, is_local_dest, free_tags, World}
+use Rattle.mctp.specs.declared.Header.{Header}
+use Rattle.mctp.specs.declared.Tag.{Tag}
+use Rattle.mctp.specs.declared.Tag.TheVariants.{Owned}
+use Rattle.mctp.specs.declared.Tag.TheVariants.{Unowned}
 
 -- whether n is one of these
 abbrev pub is_one : ℕ → List ℕ → Bool
@@ -90,18 +88,18 @@ abbrev pub place_of : List ℕ → Stack → ℕ
 place_of p st = slot_for (header_of p) st.slots
 
 -- rules 40 to 42: what an empty slot answers a packet: 1, 5, or 0 where the packet opens it
-abbrev pub asked : HeaderRead → Stack → ℕ
-asked Bad st = 1
-asked (Good h) st = pick (opening st.head.own_eid h) (pick h.key.owner 0 (pick (standing h.key.source h.key.tag st.flows) 0 5)) 1
+abbrev pub asked : Option Header → Stack → ℕ
+asked None st = 1
+asked (Some h) st = pick (opening st.head.own_eid h) (pick h.key.owner 0 (pick (standing h.key.source h.key.tag st.flows) 0 5)) 1
 
 -- 2 where n more bytes are too many for a slot that holds l already, else 0
 abbrev pub overlong : ℕ → ℕ → ℕ → ℕ
 overlong B l n = pick (ltb B (l + n)) 2 0
 
 -- rules 45, 47 and 48, why a packet that has its slot is dropped: 1 for SOM with 4 bytes only or for a wrong sequence, 2 for a body above B, and 0 where it is taken
-abbrev pub dropped : ℕ → HeaderRead → List ℕ → Reassembler → ℕ
-dropped B Bad p s = 0
-dropped B (Good h) p s =
+abbrev pub dropped : ℕ → Option Header → List ℕ → Reassembler → ℕ
+dropped B None p s = 0
+dropped B (Some h) p s =
     pick h.som (pick (ltb (length p) 5) 1 (overlong B 0 (length p - 5)))
     (pick (eqb h.seq s.next_seq) (overlong B s.len (length p - 4)) 1)
 
@@ -110,7 +108,7 @@ abbrev pub first_nonzero : ℕ → ℕ → ℕ
 first_nonzero n m = pick (eqb n 0) m n
 
 -- what a packet that has slot i is answered
-abbrev pub slot_no : ℕ → Stack → List ℕ → HeaderRead → ℕ → ℕ
+abbrev pub slot_no : ℕ → Stack → List ℕ → Option Header → ℕ → ℕ
 slot_no B st p r i = pick (is_empty (slot_at i st)) (first_nonzero (asked r st) (dropped B r p (slot_at i st))) (dropped B r p (slot_at i st))
 
 -- what a packet is answered: 6 for the pool, 2 for want of a slot, or what its slot says
@@ -119,7 +117,7 @@ receive_no B st room p =
     pick (ltb room (B * length st.slots)) 6 (pick (ltb (place_of p st) (length st.slots)) (slot_no B st p (header_of p) (place_of p st)) 2)
 
 -- a packet p of header r, for which the search found slot i of the stack st, is refused with n by a stack that is then st'
-pub data Left (B : ℕ) (st : Stack) (room : ℕ) (p : List ℕ) (r : HeaderRead) (i n : ℕ) (st' : Stack) : Type 0 where
+pub data Left (B : ℕ) (st : Stack) (room : ℕ) (p : List ℕ) (r : Option Header) (i n : ℕ) (st' : Stack) : Type 0 where
   -- the pool is too short: all stays as it was
   pool_short : room < B * length st.slots → n ≡ 6 → st' ≡ st → Left B st room p r i n st'
   -- there is no slot: all stays as it was
@@ -142,17 +140,17 @@ pub record Spared (st : Stack) (i : ℕ) (st' : Stack) : Type 0 where
 -- ---- what a refused send leaves
 
 -- the same send with another MTU
-abbrev pub with_mtu : SendMtu → Send → Send
+abbrev pub with_mtu : Option ℕ → Send → Send
 with_mtu mtu q = record { dest = q.dest; typ = q.typ; tag = q.tag; expires = q.expires; ic = q.ic; mtu = mtu; cookie = q.cookie }
 
 -- a fresh tag turns the tag counter up by 1 modulo 8, any other leaves it
-abbrev pub tag_after : SendTag → ℕ → ℕ
-tag_after Fresh n = (n % 8 + 1) % 8
-tag_after (Owned tag) n = n
-tag_after (Unowned tag) n = n
+abbrev pub tag_after : Option Tag → ℕ → ℕ
+tag_after None n = (n % 8 + 1) % 8
+tag_after (Some (Owned tag)) n = n
+tag_after (Some (Unowned tag)) n = n
 
 -- the head after a send that got no tag: the tag counter, and the event counter where an event counts
-abbrev pub untagged : SendTag → Bool → Head → Head
+abbrev pub untagged : Option Tag → Bool → Head → Head
 untagged tag event h = with_next_tag (tag_after tag h.next_tag) (with_now (counted event h.now) h)
 
 -- 4 where no place of the table is free, else 0
@@ -160,11 +158,11 @@ abbrev pub full_no : Stack → ℕ
 full_no st = pick (ltb (find is_free st.flows) (length st.flows)) 0 4
 
 -- why an owned tag gets no flow: 4 where no tag is free or the table is full, 3 where its flow stands with an expiry, else 0
-abbrev pub flow_no : Eid → SendTag → Stack → ℕ
-flow_no peer Fresh st = pick (ltb 0 (free_tags_of peer st)) (full_no st) 4
-flow_no peer (Owned tag) st =
+abbrev pub flow_no : Eid → Option Tag → Stack → ℕ
+flow_no peer None st = pick (ltb 0 (free_tags_of peer st)) (full_no st) 4
+flow_no peer (Some (Owned tag)) st =
     pick (standing peer tag st.flows) (pick (lasts (get_or st.flows (flow_place peer tag st.flows) no_flow)) 0 3) (full_no st)
-flow_no peer (Unowned tag) st = 0
+flow_no peer (Some (Unowned tag)) st = 0
 
 -- 3 for an MTU outside 5 to 255, else 0
 abbrev pub mtu_no : ℕ → ℕ
@@ -180,16 +178,16 @@ pub data Unsent (q : Send) (st : Stack) (n : ℕ) (st' : Stack) : Type 0 where
   -- a type above 127 or a tag above 7: all stays as it was
   invalid : (127 < q.typ.0) ⊎ (bad_tag q.tag ≡ true) → n ≡ 1 → st' ≡ st → Unsent q st n st'
   -- a fixed owned tag whose flow stands with an expiry: all stays as it was
-  expiring : (tag : TagValue) → q.tag ≡ Owned tag → standing q.dest tag st.flows ≡ true
+  expiring : (tag : TagValue) → q.tag ≡ Some (Owned tag) → standing q.dest tag st.flows ≡ true
       → lasts (get_or st.flows (flow_place q.dest tag st.flows) no_flow) ≡ false → n ≡ 3 → st' ≡ st → Unsent q st n st'
   -- a fresh tag, and none is free for the peer: the tag counter has turned, and no event counts
-  none_free : q.tag ≡ Fresh → free_tags_of q.dest st ≡ 0 → n ≡ 4 → st' ≡ with_head (untagged q.tag false st.head) st → Unsent q st n st'
+  none_free : q.tag ≡ None → free_tags_of q.dest st ≡ 0 → n ≡ 4 → st' ≡ with_head (untagged q.tag false st.head) st → Unsent q st n st'
   -- the table is full: the event of a flow that expires counts all the same
-  table_full : (q.tag ≡ Fresh → 0 < free_tags_of q.dest st) → find is_free st.flows ≡ length st.flows → n ≡ 4
+  table_full : (q.tag ≡ None → 0 < free_tags_of q.dest st) → find is_free st.flows ≡ length st.flows → n ≡ 4
       → st' ≡ with_head (untagged q.tag q.expires st.head) st → Unsent q st n st'
   -- an MTU outside 5 to 255: it leaves the stack that the same send with an MTU of 5 leaves, with flow and sequence as they now are
   bad_mtu : (mtu_of q.mtu st.head.mtu < min_mtu) ⊎ (max_mtu < mtu_of q.mtu st.head.mtu) → n ≡ 3
-      → st' ≡ (start_send_of (with_mtu (AtMost 5) q) st).stack → Unsent q st n st'
+      → st' ≡ (start_send_of (with_mtu (Some 5) q) st).stack → Unsent q st n st'
 
 -- ---- what a refused cancel leaves
 

@@ -5,11 +5,9 @@ use mathlib.Core.Path.{◌≡◌, refl}
 use mathlib.Core.Bool.{Bool, true, false}
 use mathlib.Core.List.{List, [], ◌∷◌}
 use lib.ListN.{replicate}
+use Rattle.std.specs.Prelude.{Err, None, Ok, Option, Result, Some}
 use Rattle.octets.specs.Pick.{pick}
-use Rattle.mctp.specs.declared.Cookie.TheVariants.{Absent}
 use Rattle.mctp.specs.declared.Error.TheVariants.{InvalidInput, NoSpace}
-use Rattle.mctp.specs.declared.HeaderRead.{HeaderRead}
-use Rattle.mctp.specs.declared.HeaderRead.TheVariants.{Good, Bad}
 use Rattle.mctp.specs.Header.{header_of}
 use Rattle.stamp.specs.declared.EventStamp.{EventStamp}
 use Rattle.stamp.specs.declared.Timeout.TheVariants.{Untimed, Expired, Left}
@@ -18,21 +16,21 @@ use Rattle.slot.specs.declared.State.{State}
 use Rattle.slot.specs.declared.State.TheVariants.{Collecting, Done, HandleOut}
 use Rattle.slot.specs.declared.Reassembler.{Reassembler}
 use Rattle.reassemble.specs.declared.Intake.{Intake}
-use Rattle.reassemble.specs.declared.Entry.{Entry}
-use Rattle.reassemble.specs.declared.Entry.TheVariants.{Frees, Takes}
 use Rattle.slot.specs.Slot.{with_state, slot_timeout}
 use Rattle.reassemble.specs.Enter.{enter, append, opened}
+use Rattle.mctp.specs.declared.Error.{Error}
+use Rattle.mctp.specs.declared.Header.{Header}
 
 -- the event's stamp
 abbrev at100 : EventStamp
 at100 = record { clock = 100; counter = 1 }
 
 -- a packet comes to the slot that its header opens; a handle that goes out has number 7
-abbrev entered_by : HeaderRead → List ℕ → Entry
-entered_by (Good h) p = enter 1032 at100 7 (opened h Absent) h p
-entered_by Bad p = Frees InvalidInput
+abbrev entered_by : Option Header → List ℕ → Result Intake Error
+entered_by (Some h) p = enter 1032 at100 7 (opened h None) h p
+entered_by None p = Err InvalidInput
 
-abbrev entered : List ℕ → Entry
+abbrev entered : List ℕ → Result Intake Error
 entered p = entered_by (header_of p) p
 
 abbrev one : List ℕ
@@ -48,7 +46,7 @@ one_whole = record {
     ic = record { 0 = false };
     next_seq = 1;
     len = 1;
-    cookie = Absent;
+    cookie = None;
     stamp = at100;
   };
   at = 0;
@@ -56,7 +54,7 @@ one_whole = record {
   whole = true;
 }
 
-one_whole_lem : entered one ≡ Takes one_whole
+one_whole_lem : entered one ≡ Ok one_whole
 unfolding pick header_of enter append
 one_whole_lem = refl
 
@@ -65,20 +63,20 @@ abbrev body : ℕ → List ℕ
 body n = 0x01 ∷ 0x08 ∷ 0x09 ∷ 0xC8 ∷ 0x01 ∷ replicate n 7
 
 -- whether the message ends with it, and the length that it then has
-abbrev ended : Entry → Bool × ℕ
-ended (Frees err) = (false, 0)
-ended (Takes t) = (t.whole, t.slot.len)
+abbrev ended : Result Intake Error → Bool × ℕ
+ended (Err err) = (false, 0)
+ended (Ok t) = (t.whole, t.slot.len)
 
 body_1032 : ended (entered (body 1032)) ≡ (true, 1032)
 unfolding pick header_of enter append
 body_1032 = refl
 
-body_1033 : entered (body 1033) ≡ Frees NoSpace
+body_1033 : entered (body 1033) ≡ Err NoSpace
 unfolding pick header_of enter append
 body_1033 = refl
 
 -- SOM with 4 bytes only
-short_som : entered (0x01 ∷ 0x08 ∷ 0x09 ∷ 0xC8 ∷ []) ≡ Frees InvalidInput
+short_som : entered (0x01 ∷ 0x08 ∷ 0x09 ∷ 0xC8 ∷ []) ≡ Err InvalidInput
 unfolding pick header_of enter append
 short_som = refl
 

@@ -4,28 +4,13 @@
 
 #![tactic(auto)]
 
-ghost use Rattle.std.specs.Prelude.{◌≡◌, ◌+◌, ◌≤◌, ◌<◌, ◌^◌, ltb, length};
+ghost use Rattle.std.specs.Prelude.{◌≡◌, ◌+◌, ◌≤◌, ◌<◌, ◌^◌, ltb, length, Ok};
 ghost use Rattle.reassemble.specs.Enter.{is_local, local_packet, opening, opened, gate_reply, begun, appended, append, enter, Planned};
 ghost use Rattle.reassemble.specs.declared.Intake.{Intake};
-ghost use Rattle.reassemble.specs.declared.Entry.TheVariants.{Takes};
 
-use mctp::{Cookie, Eid, Error, Header, HeaderRead, MsgIC, MsgType};
+use mctp::{Eid, Error, Header, MsgIC, MsgType, AppCookie};
 use slot::{Reassembler, State};
 use stamp::EventStamp;
-
-// Whether a packet comes to a slot: a refusal, or the slot that it enters.
-#[derive(Clone, Copy)]
-pub enum Gate {
-    Shut(Error),
-    Pass(Reassembler),
-}
-
-// What a packet makes of a slot: it frees it, or the slot takes the packet's bytes.
-#[derive(Clone, Copy)]
-pub enum Entry {
-    Frees(Error),
-    Takes(Intake),
-}
 
 // The slot's next record, and where in its body the packet's bytes from `from` on go; `whole`: the message ends with this packet.
 #[derive(Clone, Copy)]
@@ -51,8 +36,8 @@ pub fn is_local_dest(own: Eid, packet: &[u8]) -> bool
     ensures { result ≡ local_packet own packet.now }
 {
     match mctp::read_header(packet) {
-        HeaderRead::Good(h) => is_local(own, h.key.dest),
-        HeaderRead::Bad => false,
+        Some(h) => is_local(own, h.key.dest),
+        None => false,
     }
 }
 
@@ -70,7 +55,7 @@ pub fn opens(own: Eid, h: Header) -> bool
 }
 
 // A slot that collects under a key, with nothing in it.
-pub fn open(h: Header, cookie: Cookie) -> Reassembler
+pub fn open(h: Header, cookie: Option<AppCookie>) -> Reassembler
     ensures { result ≡ opened h cookie }
 {
     let key = h.key;
@@ -93,13 +78,13 @@ pub fn open(h: Header, cookie: Cookie) -> Reassembler
 }
 
 // A reply opens a slot only where its flow stands, and takes the flow's cookie.
-pub fn gate_reply(h: Header, stands: bool, cookie: Cookie) -> Gate
+pub fn gate_reply(h: Header, stands: bool, cookie: Option<AppCookie>) -> Result<Reassembler, Error>
     ensures { result ≡ gate_reply h stands cookie }
 {
     if stands {
-        return Gate::Pass(open(h, cookie));
+        return Ok(open(h, cookie));
     }
-    Gate::Shut(Error::Unreachable)
+    Err(Error::Unreachable)
 }
 
 // Rule 46: SOM sets type, IC and the sequence to expect, empties the body and stamps the slot. The cookie stays.
@@ -181,20 +166,20 @@ fn accept(
     stamp: EventStamp,
     issue: u64,
     most: usize,
-) -> Entry
+) -> Result<Intake, Error>
     ensures { result ≡ append most stamp issue s h packet.now start }
 {
     if h.seq != s.next_seq {
-        return Entry::Frees(Error::InvalidInput); // rule 47
+        return Err(Error::InvalidInput); // rule 47
     }
     let n = octets::beyond(packet.len(), start);
     let len = s.len;
     let over = overfills(len, n, most);
     if over {
-        return Entry::Frees(Error::NoSpace); // rule 48
+        return Err(Error::NoSpace); // rule 48
     }
     let slot = grow(s, h.eom, stamp, issue, n);
-    Entry::Takes(Intake {
+    Ok(Intake {
         slot: slot,
         at: len,
         from: start,
@@ -210,13 +195,13 @@ pub fn receive(
     stamp: EventStamp,
     issue: u64,
     most: usize,
-) -> Entry
+) -> Result<Intake, Error>
     ensures value { result ≡ enter most stamp issue s h packet.now }
-    ensures planned { (4 ≤ length packet.now) → (s.len ≤ most) → (t : Intake) → result ≡ Takes t → Planned t (length packet.now) most }
+    ensures planned { (4 ≤ length packet.now) → (s.len ≤ most) → (t : Intake) → result ≡ Ok t → Planned t (length packet.now) most }
 {
     if h.som {
         if packet.len() < 5 {
-            return Entry::Frees(Error::InvalidInput); // rule 45
+            return Err(Error::InvalidInput); // rule 45
         }
         let begun = begin(s, h, packet[4], stamp);
         return accept(begun, h, packet, 5, stamp, issue, most);

@@ -8,16 +8,13 @@ use mathlib.Core.List.{List, ◌++◌}
 use lib.ListN.{length, get_or, take, drop, length-drop}
 use lib.Seq.{take_all}
 use borrow.Author.Tests.{ltb-false}
+use Rattle.std.specs.Prelude.{Err, None, Ok, Option, Result, Some}
 use Rattle.octets.specs.Pick.{pick_cases}
 use Rattle.octets.specs.Bytes.{over, lay}
 use Rattle.octets.proofs.Part.{lent_front, lay_front}
 use Rattle.octets.proofs.Region.{place_is, place_in}
-use Rattle.mctp.specs.declared.Cookie.{Cookie}
-use Rattle.mctp.specs.declared.Cookie.TheVariants.{Absent}
 use Rattle.mctp.specs.declared.Eid.{Eid}
 use Rattle.mctp.specs.declared.Header.{Header}
-use Rattle.mctp.specs.declared.HeaderRead.{HeaderRead}
-use Rattle.mctp.specs.declared.HeaderRead.TheVariants.{Good, Bad}
 use Rattle.mctp.specs.Terms.{cookie_value}
 use Rattle.mctp.specs.Header.{header_of, HeaderOk}
 use Rattle.stamp.specs.declared.EventStamp.{EventStamp}
@@ -26,17 +23,15 @@ use Rattle.flows.specs.Table.{standing, flow_cookie, flow_place}
 use Rattle.slot.specs.declared.State.{State}
 use Rattle.slot.specs.declared.State.TheVariants.{HandleOut}
 use Rattle.slot.specs.declared.Reassembler.{Reassembler}
-use Rattle.reassemble.specs.declared.Entry.{Entry}
-use Rattle.reassemble.specs.declared.Entry.TheVariants.{Takes}
 use Rattle.reassemble.specs.declared.Intake.{Intake}
-use Rattle.reassemble.specs.declared.Gate.{Gate}
-use Rattle.reassemble.specs.declared.Gate.TheVariants.{Shut, Pass}
 use Rattle.reassemble.specs.Enter.{enter, append, appended, begun, opened, gate_empty, gate_reply}
 use Rattle.reassemble.proofs.Entries.{OfTaken}
 use Rattle.state.specs.declared.Sizes.{Sizes}
 use Rattle.state.specs.Slot.{SlotOk, issue_no}
 use Rattle.state.specs.Stack.{Stack, Kept, Becomes, stack_of, ticked}
 use Rattle.state.proofs.StackLaws.{flow_ok, head_ok}
+use Rattle.mctp.specs.declared.AppCookie.{AppCookie}
+use Rattle.mctp.specs.declared.Error.{Error}
 
 -- bytes that fit slot i's body lie within the pool
 pub in_pool : (B i n at len : ℕ) → i < n → at + len ≤ B → B * i + at + len ≤ B * n
@@ -102,7 +97,7 @@ module _ (B : ℕ) (now : EventStamp) (issue : ℕ) (h : Header) (p : List ℕ) 
       (λ _. grown_ok n t t.state t.stamp ok l ok.issue (record { counter = ok.counter; clock = ok.clock }))
 
   -- what is taken has the ranges of a slot
-  EntryOk : Entry → Type 0
+  EntryOk : Result Intake Error → Type 0
   EntryOk = OfTaken (λ (t : Intake). SlotOk B t.slot)
 
   append_ok : (t : Reassembler) (start : ℕ) → SlotOk B t → EntryOk (append B now issue t h p start)
@@ -128,7 +123,7 @@ module _ (B : ℕ) (now : EventStamp) (issue : ℕ) (h : Header) (p : List ℕ) 
   }
 
   -- the next slot has the ranges of a slot
-  pub entered_ok : (s : Reassembler) → h.seq < 4 → SlotOk B s → (t : Intake) → enter B now issue s h p ≡ Takes t → SlotOk B t.slot
+  pub entered_ok : (s : Reassembler) → h.seq < 4 → SlotOk B s → (t : Intake) → enter B now issue s h p ≡ Ok t → SlotOk B t.slot
   unfolding enter EntryOk
   entered_ok s q ok t e =
       subst EntryOk e
@@ -137,11 +132,11 @@ module _ (B : ℕ) (now : EventStamp) (issue : ℕ) (h : Header) (p : List ℕ) 
       (λ _. append_ok s 4 ok))
 
 -- a slot that passes has its ranges
-abbrev GateOk : ℕ → Gate → Type 0
-GateOk B (Shut err) = Unit
-GateOk B (Pass s) = SlotOk B s
+abbrev GateOk : ℕ → Result Reassembler Error → Type 0
+GateOk B (Err err) = Unit
+GateOk B (Ok s) = SlotOk B s
 
-opened_ok : (B : ℕ) (h : Header) (cookie : Cookie) → HeaderOk h → cookie_value cookie < 2 ^ 64 → SlotOk B (opened h cookie)
+opened_ok : (B : ℕ) (h : Header) (cookie : Option AppCookie) → HeaderOk h → cookie_value cookie < 2 ^ 64 → SlotOk B (opened h cookie)
 opened_ok B h cookie ok v = record {
   dest = ok.dest;
   source = ok.source;
@@ -156,19 +151,19 @@ opened_ok B h cookie ok v = record {
   issue = omega arith;
 }
 
-gate_fits : (B : ℕ) (own : Eid) (h : Header) (stands : Bool) (cookie : Cookie) → HeaderOk h → (stands ≡ true → cookie_value cookie < 2 ^ 64)
+gate_fits : (B : ℕ) (own : Eid) (h : Header) (stands : Bool) (cookie : Option AppCookie) → HeaderOk h → (stands ≡ true → cookie_value cookie < 2 ^ 64)
     → GateOk B (gate_empty own h stands cookie)
 unfolding gate_empty gate_reply
 gate_fits B own h stands cookie ok v =
     pick_cases (GateOk B)
     (λ _. pick_cases (GateOk B)
-    (λ _. opened_ok B h Absent ok (omega arith))
+    (λ _. opened_ok B h None ok (omega arith))
     (λ _. pick_cases (GateOk B) (λ e. opened_ok B h cookie ok (v e)) (λ _. tt)))
     (λ _. tt)
 
 -- the slot that an empty slot's gate passes, with the cookie of a flow that stands
 pub gate_ok : (z : Sizes) (b : List ℕ) (own : Eid) (h : Header) (s : Reassembler) → Kept z b → HeaderOk h
-    → gate_empty own h (standing h.key.source h.key.tag (stack_of z b).flows) (flow_cookie h.key.source h.key.tag (stack_of z b).flows) ≡ Pass s
+    → gate_empty own h (standing h.key.source h.key.tag (stack_of z b).flows) (flow_cookie h.key.source h.key.tag (stack_of z b).flows) ≡ Ok s
     → SlotOk z.body s
 gate_ok z b own h s k ok e =
     let fs = (stack_of z b).flows in
@@ -183,9 +178,9 @@ pub record Low (p : List ℕ) (h : Header) : Type 0 where
   pub seq : h.seq < 4
   pub long : 4 ≤ length p
 
-abbrev LowIn : List ℕ → HeaderRead → Type 0
-LowIn p (Good h) = Low p h
-LowIn p Bad = Unit
+abbrev LowIn : List ℕ → Option Header → Type 0
+LowIn p (Some h) = Low p h
+LowIn p None = Unit
 
 low_in : (p : List ℕ) → LowIn p (header_of p)
 unfolding header_of
@@ -193,5 +188,5 @@ low_in p =
     pick_cases (LowIn p) (λ _. tt)
     (λ e. let l = ltb-false (length p) 4 e in pick_cases (LowIn p) (λ _. record { tag = omega arith; seq = omega arith; long = l }) (λ _. tt))
 
-pub good_low : (p : List ℕ) (h : Header) → header_of p ≡ Good h → Low p h
+pub good_low : (p : List ℕ) (h : Header) → header_of p ≡ Some h → Low p h
 good_low p h e = subst (LowIn p) e (low_in p)

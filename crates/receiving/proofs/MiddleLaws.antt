@@ -6,20 +6,20 @@ use mathlib.Core.Bool.{Bool, true, false}
 use mathlib.Core.List.{List}
 use lib.ListN.{length}
 use borrow.Author.Tests.{eqb-true, leb-true, le-ltb}
+use Rattle.std.specs.Prelude.{Ok, Result}
 use Rattle.octets.specs.Pick.{pick, pick_false, pick_cases}
 use Rattle.octets.proofs.Bools.{false_true}
 use Rattle.mctp.specs.declared.Header.{Header}
 use Rattle.stamp.specs.declared.EventStamp.{EventStamp}
 use Rattle.slot.specs.declared.Reassembler.{Reassembler}
-use Rattle.reassemble.specs.declared.Entry.{Entry}
-use Rattle.reassemble.specs.declared.Entry.TheVariants.{Takes}
-use Rattle.reassemble.specs.declared.Gate.TheVariants.{Pass}
 use Rattle.reassemble.specs.Enter.{enter, appended}
 use Rattle.reassemble.proofs.Entries.{append_is}
 use Rattle.state.specs.declared.Progress.{Progress}
 use Rattle.state.specs.Slot.{progress, progress_of}
 use Rattle.state.specs.Stack.{Stack, ticked}
 use Rattle.receiving.specs.Receive.{is_middle, settled, land}
+use Rattle.mctp.specs.declared.Error.{Error}
+use Rattle.reassemble.specs.declared.Intake.{Intake}
 
 record Goes (h : Header) (g : Progress) (n B : ℕ) : Type 0 where
   pub som : h.som ≡ false
@@ -41,12 +41,12 @@ pub goes_room : (h : Header) (g : Progress) (n B : ℕ) → g.len ≤ B → is_m
 goes_room h g n B l e = let r = (goes h g n B e).room in omega arith
 
 -- what such a packet makes of a slot that held len bytes
-abbrev pub grown : List ℕ → Reassembler → ℕ → ℕ → Entry
-grown p s seq len = Takes (record { slot = progress ((seq % 4 + 1) % 4) (len + (length p - 4)) s; at = len; from = 4; whole = false })
+abbrev pub grown : List ℕ → Reassembler → ℕ → ℕ → Result Intake Error
+grown p s seq len = Ok (record { slot = progress ((seq % 4 + 1) % 4) (len + (length p - 4)) s; at = len; from = 4; whole = false })
 
 module _ (B : ℕ) (h : Header) (p : List ℕ) (s : Reassembler) where
-  abbrev taken : EventStamp → ℕ → Bool → Entry
-  taken now issue eom = Takes (record { slot = appended eom now issue (length p - 4) s; at = s.len; from = 4; whole = eom })
+  abbrev taken : EventStamp → ℕ → Bool → Result Intake Error
+  taken now issue eom = Ok (record { slot = appended eom now issue (length p - 4) s; at = s.len; from = 4; whole = eom })
 
   entry : (now : EventStamp) (issue : ℕ) → s.len ≤ B → is_middle h (progress_of s) (length p - 4) B ≡ true → enter B now issue s h p ≡ grown p s h.seq s.len
   unfolding enter pick
@@ -58,14 +58,14 @@ module _ (B : ℕ) (h : Header) (p : List ℕ) (s : Reassembler) where
       ∙ ap (λ (q : ℕ). grown p s q s.len) (sym g.seq)
 
   module _ (i : ℕ) (st : Stack) where
-    landed : s.len ≤ B → is_middle h (progress_of s) (length p - 4) B ≡ true → land B i st h p (Pass s) ≡ settled B i (ticked st) h.key p (grown p s h.seq s.len)
+    landed : s.len ≤ B → is_middle h (progress_of s) (length p - 4) B ≡ true → land B i st h p (Ok s) ≡ settled B i (ticked st) h.key p (grown p s h.seq s.len)
     unfolding land
     landed l e = ap (settled B i (ticked st) h.key p) (entry _ _ l e)
 
     -- the event is counted, then the slot gets that sequence and length, and the packet's bytes go behind the body
     pub middle : (g : Progress) → g ≡ progress_of s → g.len ≤ B → is_middle h g (length p - 4) B ≡ true
-        → land B i st h p (Pass s) ≡ settled B i (ticked st) h.key p (grown p s h.seq g.len)
+        → land B i st h p (Ok s) ≡ settled B i (ticked st) h.key p (grown p s h.seq g.len)
     middle g q =
         subst
-        (λ (x : Progress). x.len ≤ B → is_middle h x (length p - 4) B ≡ true → land B i st h p (Pass s) ≡ settled B i (ticked st) h.key p (grown p s h.seq x.len))
+        (λ (x : Progress). x.len ≤ B → is_middle h x (length p - 4) B ≡ true → land B i st h p (Ok s) ≡ settled B i (ticked st) h.key p (grown p s h.seq x.len))
         (sym q) landed

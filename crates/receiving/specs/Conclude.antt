@@ -1,7 +1,7 @@
 -- docs/RULES.md 49, 50 and 78: what is said of a packet that its slot takes, and with a whole message the number of the handle that goes out and the
 -- end of a reply's flow.
 -- Leans on `flows` for the flow's removal, on `state` for the stack.
-use Rattle.std.specs.Prelude.{ℕ, Bool, true, false, List, []}
+use Rattle.std.specs.Prelude.{ℕ, Bool, true, false, List, [], Err, None, Ok, Option, Result, Some}
 use Rattle.octets.specs.Pick.{pick}
 use Rattle.mctp.specs.declared.Key.{Key}
 use Rattle.mctp.specs.Terms.{error_no}
@@ -11,19 +11,19 @@ use Rattle.flows.specs.Table.{removed}
 use Rattle.slot.specs.Handle.{next_issue, handle_words}
 use Rattle.state.specs.Head.{with_issue}
 use Rattle.state.specs.Stack.{Stack}
-use Rattle.receiving.specs.declared.Received.{Received}
-use Rattle.receiving.specs.declared.Received.TheVariants.{More, Message, Refused}
+use Rattle.mctp.specs.declared.Error.{Error}
+use Rattle.slot.specs.declared.ReceiveHandle.{ReceiveHandle}
 
 -- `whole`: the message ends with this packet
-abbrev pub said_of : Bool → ℕ → ℕ → Received
-said_of true i issue = Message (record { index = i; issue = issue })
-said_of false i issue = More
+abbrev pub said_of : Bool → ℕ → ℕ → Result (Option ReceiveHandle) Error
+said_of true i issue = Ok (Some (record { index = i; issue = issue }))
+said_of false i issue = Ok None
 
 -- 0 while more is to come, 0 and a handle with a message, or the refusal's number
-abbrev pub received_as : Received → Answer
-received_as More = gives []
-received_as (Message h) = gives (handle_words h)
-received_as (Refused err) = refuses (error_no err) []
+abbrev pub received_as : Result (Option ReceiveHandle) Error → Answer
+received_as (Ok None) = gives []
+received_as (Ok (Some h)) = gives (handle_words h)
+received_as (Err err) = refuses (error_no err) []
 
 -- rule 50: with EOM and TO=0 the flow is removed; where it has gone already nothing happens
 abbrev pub flows_after : Bool → Key → List Flow → List Flow

@@ -4,10 +4,7 @@
 
 #![tactic(auto)]
 
-ghost use Rattle.std.specs.Prelude.{◌≡◌, ◌*◌, ◌≤◌, ◌<◌, length, true};
-ghost use Rattle.mctp.specs.declared.HeaderRead.TheVariants.{Good, Bad};
-ghost use Rattle.reassemble.specs.declared.Gate.TheVariants.{Pass};
-ghost use Rattle.reassemble.specs.declared.Entry.TheVariants.{Takes};
+ghost use Rattle.std.specs.Prelude.{◌≡◌, ◌*◌, ◌≤◌, ◌<◌, length, true, None, Ok, Some};
 ghost use Rattle.slot.specs.Handle.{next_issue};
 ghost use Rattle.state.specs.Stack.{with_flows, Kept, Becomes, stack_of, slot_at};
 ghost use Rattle.receiving.specs.Conclude.{concluded, said_of, flows_after};
@@ -17,45 +14,38 @@ ghost use Rattle.flows.specs.Table.{standing, flow_cookie};
 ghost use Rattle.state.specs.Slot.{SlotOk};
 ghost use Rattle.receiving.specs.Receive.{receive_of, receive_by, receive_at, land, settled, Makes};
 
-use mctp::{Cookie, Error, Header, HeaderRead, Key};
-use reassemble::{Entry, Gate, Intake};
+use mctp::{Error, Header, Key};
+use reassemble::{Intake};
 use slot::{Reassembler, ReceiveHandle};
 use state::Sizes;
 
 mod middle; // middle.rt: the short way of a middle packet
 
-#[derive(Clone, Copy)]
-pub enum Received {
-    More,
-    Message(ReceiveHandle),
-    Refused(Error),
-}
-
 // Receives a packet.
-pub fn receive(state: &mut [u8], sizes: Sizes, pool: &mut [u8], packet: &[u8]) -> Received
+pub fn receive(state: &mut [u8], sizes: Sizes, pool: &mut [u8], packet: &[u8]) -> Result<Option<ReceiveHandle>, Error>
     requires { Kept sizes state.old }
     ensures { Makes sizes (receive_of sizes.body (stack_of sizes state.old) (length pool.old) packet.now) result state.old state.new pool.old pool.new }
 {
     if pool.len() < sizes.body * sizes.slots {
-        return Received::Refused(Error::PoolShort);
+        return Err(Error::PoolShort);
     }
     match mctp::read_header(packet) {
-        HeaderRead::Good(h) => receive_good(state, sizes, pool, packet, h),
-        HeaderRead::Bad => receive_bad(state, sizes, packet),
+        Some(h) => receive_good(state, sizes, pool, packet, h),
+        None => receive_bad(state, sizes, packet),
     }
 }
 
 // A bad header matches no collecting slot: it is refused at an empty slot, or for want of one.
-fn receive_bad(state: &mut [u8], sizes: Sizes, packet: &[u8]) -> Received
+fn receive_bad(state: &mut [u8], sizes: Sizes, packet: &[u8]) -> Result<Option<ReceiveHandle>, Error>
     requires { Kept sizes state.old }
-    ensures { (result ≡ (receive_by sizes.body (stack_of sizes state.old) packet.now Bad).said) × Becomes sizes state.old state.new (receive_by sizes.body (stack_of sizes state.old) packet.now Bad).stack }
+    ensures { (result ≡ (receive_by sizes.body (stack_of sizes state.old) packet.now None).said) × Becomes sizes state.old state.new (receive_by sizes.body (stack_of sizes state.old) packet.now None).stack }
 {
     let empty = slot_walks::find_empty(state, sizes);
     if empty < sizes.slots {
         state::tick(state, sizes);
-        return Received::Refused(Error::InvalidInput);
+        return Err(Error::InvalidInput);
     }
-    Received::Refused(Error::NoSpace)
+    Err(Error::NoSpace)
 }
 
 fn receive_good(
@@ -64,9 +54,9 @@ fn receive_good(
     pool: &mut [u8],
     packet: &[u8],
     h: Header,
-) -> Received
+) -> Result<Option<ReceiveHandle>, Error>
     requires { Kept sizes state.old × (h.key.tag.0 < 8) × (h.seq < 4) × (4 ≤ length packet.now) × (sizes.body * sizes.slots ≤ length pool.old) }
-    ensures { Makes sizes (receive_by sizes.body (stack_of sizes state.old) packet.now (Good h)) result state.old state.new pool.old pool.new }
+    ensures { Makes sizes (receive_by sizes.body (stack_of sizes state.old) packet.now (Some h)) result state.old state.new pool.old pool.new }
 {
     let i = slot_walks::find_collecting(state, sizes, h.key);
     if i < sizes.slots {
@@ -76,7 +66,7 @@ fn receive_good(
     if j < sizes.slots {
         return receive_opening(state, sizes, pool, packet, h, j);
     }
-    Received::Refused(Error::NoSpace)
+    Err(Error::NoSpace)
 }
 
 // The packet comes to a slot that collects its key; a middle packet takes the shortcut.
@@ -87,9 +77,9 @@ fn receive_collecting(
     packet: &[u8],
     h: Header,
     i: usize,
-) -> Received
+) -> Result<Option<ReceiveHandle>, Error>
     requires { Kept sizes state.old × (h.key.tag.0 < 8) × (h.seq < 4) × (4 ≤ length packet.now) × (sizes.body * sizes.slots ≤ length pool.old) × (i < sizes.slots) }
-    ensures { Makes sizes (land sizes.body i (stack_of sizes state.old) h packet.now (Pass (slot_at i (stack_of sizes state.old)))) result state.old state.new pool.old pool.new }
+    ensures { Makes sizes (land sizes.body i (stack_of sizes state.old) h packet.now (Ok (slot_at i (stack_of sizes state.old)))) result state.old state.new pool.old pool.new }
 {
     let p = state::progress_at(state, sizes, i);
     let n = packet.len() - 4;
@@ -109,34 +99,34 @@ fn receive_opening(
     packet: &[u8],
     h: Header,
     i: usize,
-) -> Received
+) -> Result<Option<ReceiveHandle>, Error>
     requires { Kept sizes state.old × (h.key.tag.0 < 8) × (h.seq < 4) × (4 ≤ length packet.now) × (sizes.body * sizes.slots ≤ length pool.old) × (i < sizes.slots) × (is_empty (slot_at i (stack_of sizes state.old)) ≡ true) }
-    ensures { Makes sizes (receive_at sizes.body i (stack_of sizes state.old) packet.now (Good h)) result state.old state.new pool.old pool.new }
+    ensures { Makes sizes (receive_at sizes.body i (stack_of sizes state.old) packet.now (Some h)) result state.old state.new pool.old pool.new }
 {
     let gate = gate_empty(state, sizes, h);
     state::tick(state, sizes);
     match gate {
-        Gate::Shut(err) => Received::Refused(err),
-        Gate::Pass(s) => feed(state, sizes, pool, packet, h, i, s),
+        Err(err) => Err(err),
+        Ok(s) => feed(state, sizes, pool, packet, h, i, s),
     }
 }
 
-fn gate_empty(state: &[u8], sizes: Sizes, h: Header) -> Gate
+fn gate_empty(state: &[u8], sizes: Sizes, h: Header) -> Result<Reassembler, Error>
     requires { Kept sizes state.now }
     ensures { result ≡ gate_empty (stack_of sizes state.now).head.own_eid h (standing h.key.source h.key.tag (stack_of sizes state.now).flows) (flow_cookie h.key.source h.key.tag (stack_of sizes state.now).flows) }
 {
     let own = state::own_eid(state, sizes);
     if reassemble::opens(own, h) {
         if h.key.owner {
-            return Gate::Pass(reassemble::open(h, Cookie::Absent));
+            return Ok(reassemble::open(h, None));
         }
         return gate_by_flow(state, sizes, h);
     }
-    Gate::Shut(Error::InvalidInput)
+    Err(Error::InvalidInput)
 }
 
 // Rule 41: a reply passes only where its flow stands.
-fn gate_by_flow(state: &[u8], sizes: Sizes, h: Header) -> Gate
+fn gate_by_flow(state: &[u8], sizes: Sizes, h: Header) -> Result<Reassembler, Error>
     requires { Kept sizes state.now }
     ensures { result ≡ gate_reply h (standing h.key.source h.key.tag (stack_of sizes state.now).flows) (flow_cookie h.key.source h.key.tag (stack_of sizes state.now).flows) }
 {
@@ -148,7 +138,7 @@ fn gate_by_flow(state: &[u8], sizes: Sizes, h: Header) -> Gate
         let cookie = f.cookie;
         return reassemble::gate_reply(h, true, cookie);
     }
-    reassemble::gate_reply(h, false, Cookie::Absent)
+    reassemble::gate_reply(h, false, None)
 }
 
 // Rules 44 to 51: one event is counted, and the packet enters slot i, which is s.
@@ -160,18 +150,18 @@ fn feed(
     h: Header,
     i: usize,
     s: Reassembler,
-) -> Received
+) -> Result<Option<ReceiveHandle>, Error>
     requires { Kept sizes state.old × (h.key.tag.0 < 8) × (h.seq < 4) × (4 ≤ length packet.now) × (sizes.body * sizes.slots ≤ length pool.old) × (i < sizes.slots) × SlotOk sizes.body s }
-    ensures { Makes sizes (land sizes.body i (stack_of sizes state.old) h packet.now (Pass s)) result state.old state.new pool.old pool.new }
+    ensures { Makes sizes (land sizes.body i (stack_of sizes state.old) h packet.now (Ok s)) result state.old state.new pool.old pool.new }
 {
     let stamp = state::tick(state, sizes);
     let issue = slot::next_issue(state::issue_at(state, sizes));
     match reassemble::receive(s, h, packet, stamp, issue, sizes.body) {
-        Entry::Frees(err) => {
+        Err(err) => {
             state::put_slot(state, sizes, i, slot::blank());
-            Received::Refused(err)
+            Err(err)
         }
-        Entry::Takes(t) => settle(state, sizes, pool, packet, h.key, i, t),
+        Ok(t) => settle(state, sizes, pool, packet, h.key, i, t),
     }
 }
 
@@ -184,9 +174,9 @@ fn settle(
     key: Key,
     i: usize,
     t: Intake,
-) -> Received
+) -> Result<Option<ReceiveHandle>, Error>
     requires { Kept sizes state.old × (i < sizes.slots) × (sizes.body * sizes.slots ≤ length pool.old) × Planned t (length packet.now) sizes.body × SlotOk sizes.body t.slot }
-    ensures { Makes sizes (settled sizes.body i (stack_of sizes state.old) key packet.now (Takes t)) result state.old state.new pool.old pool.new }
+    ensures { Makes sizes (settled sizes.body i (stack_of sizes state.old) key packet.now (Ok t)) result state.old state.new pool.old pool.new }
 {
     let slot = t.slot;
     state::put_slot(state, sizes, i, slot);
@@ -212,7 +202,7 @@ fn close(state: &mut [u8], sizes: Sizes, key: Key)
 }
 
 // What is said of a packet that slot i takes, and with a whole message its handle's number and its flow's end.
-pub fn conclude(state: &mut [u8], sizes: Sizes, key: Key, i: usize, whole: bool) -> Received
+pub fn conclude(state: &mut [u8], sizes: Sizes, key: Key, i: usize, whole: bool) -> Result<Option<ReceiveHandle>, Error>
     requires { Kept sizes state.old }
     ensures { (result ≡ said_of whole i (next_issue (stack_of sizes state.old).head.issue)) × Becomes sizes state.old state.new (concluded whole key (stack_of sizes state.old)) }
 {
@@ -220,10 +210,10 @@ pub fn conclude(state: &mut [u8], sizes: Sizes, key: Key, i: usize, whole: bool)
         let issue = slot::next_issue(state::issue_at(state, sizes));
         state::put_issue(state, sizes, issue);
         close(state, sizes, key);
-        return Received::Message(ReceiveHandle {
+        return Ok(Some(ReceiveHandle {
             index: i,
             issue: issue,
-        });
+        }));
     }
-    Received::More
+    Ok(None)
 }

@@ -1,14 +1,14 @@
 // The short way of receive: a middle packet is neither first nor last, in turn, with room (docs/RULES.md 47 to 49).
 // Of its slot the sequence and the length alone are read and stored, and its bytes go to the pool behind the body.
 // It makes what the long way makes: the contract is `land` of specs/Receive.antt.
-ghost use Rattle.std.specs.Prelude.{◌≡◌, ◌-◌, ◌*◌, ◌≤◌, ◌<◌, length, true};
-ghost use Rattle.reassemble.specs.declared.Gate.TheVariants.{Pass};
+ghost use Rattle.std.specs.Prelude.{◌≡◌, ◌-◌, ◌*◌, ◌≤◌, ◌<◌, length, true, Ok};
 ghost use Rattle.state.specs.Slot.{progress_of};
 ghost use Rattle.state.specs.Stack.{Kept, stack_of, slot_at};
 ghost use Rattle.receiving.specs.Receive.{is_middle, land, Makes};
 
-use super::Received;
-use mctp::Header;
+
+use slot::ReceiveHandle;
+use mctp::{Header, Error};
 use state::{Progress, Sizes};
 
 // A middle packet of n bytes: neither first nor last, in turn, with room.
@@ -37,9 +37,9 @@ pub(crate) fn append_middle(
     h: Header,
     i: usize,
     p: Progress,
-) -> Received
+) -> Result<Option<ReceiveHandle>, Error>
     requires { Kept sizes state.old × (4 ≤ length packet.now) × (sizes.body * sizes.slots ≤ length pool.old) × (i < sizes.slots) × (p ≡ progress_of (slot_at i (stack_of sizes state.old))) × (p.len ≤ sizes.body) × (is_middle h p (length packet.now - 4) sizes.body ≡ true) }
-    ensures { Makes sizes (land sizes.body i (stack_of sizes state.old) h packet.now (Pass (slot_at i (stack_of sizes state.old)))) result state.old state.new pool.old pool.new }
+    ensures { Makes sizes (land sizes.body i (stack_of sizes state.old) h packet.now (Ok (slot_at i (stack_of sizes state.old)))) result state.old state.new pool.old pool.new }
 {
     let n = packet.len() - 4;
     state::tick(state, sizes);
@@ -49,5 +49,5 @@ pub(crate) fn append_middle(
     state::put_progress(state, sizes, i, next);
     let at = sizes.body * i + p.len;
     copying::copy(&mut pool[at..], &packet[4..]);
-    Received::More
+    Ok(None)
 }

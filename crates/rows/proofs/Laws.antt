@@ -5,11 +5,10 @@ use native.Mathlib.Nat.{mod-eq_of_lt}
 use mathlib.Core.Path.{◌≡◌, refl}
 use mathlib.Core.Bool.{Bool, true, false}
 use mathlib.Core.List.{[], ◌∷◌}
+use Rattle.std.specs.Prelude.{None, Option, Some}
 use Rattle.octets.specs.Pick.{pick}
 use Rattle.mctp.specs.declared.Tag.{Tag}
 use Rattle.mctp.specs.declared.Tag.TheVariants.{Owned, Unowned}
-use Rattle.mctp.specs.declared.Cookie.{Cookie}
-use Rattle.mctp.specs.declared.Cookie.TheVariants.{Absent, Given}
 use Rattle.mctp.specs.Terms.{tag_of, is_owner, tag_under, cookie_no, cookie_value}
 use Rattle.fragment.specs.declared.Fragmenter.{Fragmenter}
 use Rattle.mctp.specs.Answer.{gives, flag_word}
@@ -17,6 +16,7 @@ use Rattle.fragment.specs.Step.{advanced_by}
 use Rattle.fragment.specs.declared.SendOutput.TheVariants.{Complete}
 use Rattle.fragment.specs.Answers.{words_of, output_as}
 use Rattle.rows.specs.Words.{word, is_yes, narrow, tag_from, cookie_from, advanced_row, fragmenter_of}
+use Rattle.mctp.specs.declared.AppCookie.{AppCookie}
 
 flag_back : (b : Bool) → is_yes (flag_word b) ≡ b
 flag_back true = refl
@@ -27,10 +27,10 @@ unfolding tag_under pick
 tag_back (Owned t) h = rw (mod-eq_of_lt h)
 tag_back (Unowned t) h = rw (mod-eq_of_lt h)
 
-cookie_back : (k : Cookie) → cookie_from (is_yes (cookie_no k)) (cookie_value k) ≡ k
+cookie_back : (k : Option AppCookie) → cookie_from (is_yes (cookie_no k)) (cookie_value k) ≡ k
 unfolding cookie_from pick
-cookie_back Absent = refl
-cookie_back (Given v) = refl
+cookie_back None = refl
+cookie_back (Some v) = refl
 
 -- the fragmenter read back from its own row is the same one
 pub words_back : (f : Fragmenter) → f.src.0 < 256 → f.dest.0 < 256 → f.typ.0 < 256 → (tag_of f.tag).0 < 256 → f.seq < 256 → fragmenter_of (words_of f) ≡ f

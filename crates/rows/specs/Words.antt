@@ -1,19 +1,16 @@
 -- Rows of 64-bit numbers read as records, for callers that hold only numbers: a send, a fragmenter. What a row says of an answer stands beside the
 -- record: `handle_words`, `message_words`, `words_of`. Any number but 0 is read as yes.
 -- Leans on the records of `mctp`, `fragment` and `sending`.
-use Rattle.std.specs.Prelude.{ℕ, ◌%◌, Bool, true, false, List, ltb, eqb, get_or, set}
+use Rattle.std.specs.Prelude.{ℕ, ◌%◌, Bool, true, false, List, ltb, eqb, get_or, set, None, Option, Some}
 use Rattle.octets.specs.Pick.{pick}
 use Rattle.mctp.specs.declared.Tag.{Tag}
-use Rattle.mctp.specs.declared.Cookie.{Cookie}
-use Rattle.mctp.specs.declared.Cookie.TheVariants.{Absent, Given}
 use Rattle.mctp.specs.Terms.{tag_under}
 use Rattle.mctp.specs.Answer.{flag_word}
 use Rattle.fragment.specs.declared.Fragmenter.{Fragmenter}
 use Rattle.sending.specs.declared.Send.{Send}
-use Rattle.sending.specs.declared.SendTag.{SendTag}
-use Rattle.sending.specs.declared.SendTag.TheVariants.{Fresh, Owned, Unowned}
-use Rattle.sending.specs.declared.SendMtu.{SendMtu}
-use Rattle.sending.specs.declared.SendMtu.TheVariants.{Own, AtMost}
+use Rattle.mctp.specs.declared.AppCookie.{AppCookie}
+use Rattle.mctp.specs.declared.Tag.TheVariants.{Owned}
+use Rattle.mctp.specs.declared.Tag.TheVariants.{Unowned}
 
 -- word i of a row
 abbrev pub word : ℕ → List ℕ → ℕ
@@ -29,8 +26,8 @@ narrow w = w % 256
 abbrev pub tag_from : Bool → ℕ → Tag
 tag_from owner t = tag_under owner (record { 0 = t })
 
-unfoldable pub cookie_from : Bool → ℕ → Cookie
-cookie_from has value = pick has (Given (record { 0 = value })) Absent
+unfoldable pub cookie_from : Bool → ℕ → Option AppCookie
+cookie_from has value = pick has (Some (record { 0 = value })) None
 
 -- A send: destination, type, kind of tag, tag, expires, IC, has an MTU, MTU, has a cookie, cookie. The kind is 0 for a fresh tag, 1 for a given owned tag
 -- and 2 for a given unowned one.
@@ -41,11 +38,11 @@ good_send w =
     pick (ltb 255 (word 0 w)) false
     (pick (ltb 255 (word 1 w)) false (pick (ltb 2 (word 2 w)) false (pick (eqb (word 2 w) 0) true (ltb (word 3 w) 256))))
 
-unfoldable pub send_tag_from : ℕ → ℕ → SendTag
-send_tag_from kind t = pick (eqb kind 0) Fresh (pick (eqb kind 1) (Owned (record { 0 = t })) (Unowned (record { 0 = t })))
+unfoldable pub send_tag_from : ℕ → ℕ → Option Tag
+send_tag_from kind t = pick (eqb kind 0) None (pick (eqb kind 1) (Some (Owned (record { 0 = t }))) (Some (Unowned (record { 0 = t }))))
 
-unfoldable pub send_mtu_from : Bool → ℕ → SendMtu
-send_mtu_from has mtu = pick has (AtMost mtu) Own
+unfoldable pub send_mtu_from : Bool → ℕ → Option ℕ
+send_mtu_from has mtu = pick has (Some mtu) None
 
 abbrev pub send_of : List ℕ → Send
 send_of w = record {

@@ -9,32 +9,36 @@ ghost use Rattle.updating.specs.Update.{updated_as};
 ghost use Rattle.handles.specs.Handles.{done_as, fetched_as, deferred_as};
 ghost use Rattle.rows.specs.Answers.{length_after, stepped_after};
 
+use handles::Message;
+use updating::Next;
+use slot::ReceiveHandle;
+use mctp::Error;
 use crate::{advance, flag_word, handle_words, message_words, words_of};
-use fragment::{Fragmenter, SendOutput, Started};
-use handles::{Deferred, Done, Fetched};
-use receiving::Received;
-use updating::Updated;
+use fragment::{Fragmenter, SendOutput};
 
-pub fn done_no(d: Done) -> u8
+
+
+
+pub fn done_no(d: Result<(), Error>) -> u8
     ensures { result ≡ answer_no (done_as d) }
 {
     match d {
-        Done::Well => 0,
-        Done::Refused(err) => err.number(),
+        Ok(()) => 0,
+        Err(err) => err.number(),
     }
 }
 
 // A send that has started leaves its fragmenter.
-pub fn put_started(fragmenter: &mut [u64; 13], started: Started) -> u8
+pub fn put_started(fragmenter: &mut [u64; 13], started: Result<Fragmenter, Error>) -> u8
     ensures value { result ≡ answer_no (started_as started) }
     ensures fragmenter_after { fragmenter.new ≡ row_after 13 (started_as started) fragmenter.old }
 {
     match started {
-        Started::Sends(f) => {
+        Ok(f) => {
             *fragmenter = words_of(f);
             0
         }
-        Started::Refused(err) => err.number(),
+        Err(err) => err.number(),
     }
 }
 
@@ -64,61 +68,61 @@ pub fn put_step(
 }
 
 // An update leaves how many milliseconds may pass until the next, and whether something expired.
-pub fn put_next(next: &mut [u64; 2], updated: Updated) -> u8
+pub fn put_next(next: &mut [u64; 2], updated: Result<Next, Error>) -> u8
     ensures value { result ≡ answer_no (updated_as updated) }
     ensures next_after { next.new ≡ row_after 2 (updated_as updated) next.old }
 {
     match updated {
-        Updated::Next { millis, expired } => {
+        Ok(Next { millis, expired }) => {
             *next = [millis, flag_word(expired)];
             0
         }
-        Updated::Refused(err) => err.number(),
+        Err(err) => err.number(),
     }
 }
 
 // A packet that ends a message leaves the message's handle; any other leaves issue 0.
-pub fn put_received(handle: &mut [u64; 2], received: Received) -> u8
+pub fn put_received(handle: &mut [u64; 2], received: Result<Option<ReceiveHandle>, Error>) -> u8
     ensures value { result ≡ answer_no (received_as received) }
     ensures handle_after { handle.new ≡ row_after 2 (received_as received) handle.old }
 {
     match received {
-        Received::More => {
+        Ok(None) => {
             *handle = [0, 0];
             0
         }
-        Received::Message(h) => {
+        Ok(Some(h)) => {
             *handle = handle_words(h);
             0
         }
-        Received::Refused(err) => err.number(),
+        Err(err) => err.number(),
     }
 }
 
 // A lookup leaves the handle that it found, or issue 0.
-pub fn put_deferred(row: &mut [u64; 2], d: Deferred)
+pub fn put_deferred(row: &mut [u64; 2], d: Option<ReceiveHandle>)
     ensures { row.new ≡ row_after 2 (deferred_as d) row.old }
 {
     match d {
-        Deferred::Found(h) => {
+        Some(h) => {
             *row = handle_words(h);
         }
-        Deferred::Nothing => {
+        None => {
             *row = [0, 0];
         }
     }
 }
 
 // A message that is fetched leaves its row.
-pub fn put_message(message: &mut [u64; 10], fetched: Fetched) -> u8
+pub fn put_message(message: &mut [u64; 10], fetched: Result<Message, Error>) -> u8
     ensures value { result ≡ answer_no (fetched_as fetched) }
     ensures message_after { message.new ≡ row_after 10 (fetched_as fetched) message.old }
 {
     match fetched {
-        Fetched::Message(m) => {
+        Ok(m) => {
             *message = message_words(m);
             0
         }
-        Fetched::Refused(err) => err.number(),
+        Err(err) => err.number(),
     }
 }

@@ -18,8 +18,8 @@ pub use answers::{
 };
 use fragment::Fragmenter;
 use handles::Message;
-use mctp::{AppCookie, Cookie, Eid, MsgIC, MsgType, Tag, TagValue};
-use sending::{Send, SendMtu, SendTag};
+use mctp::{AppCookie, Eid, MsgIC, MsgType, Tag, TagValue};
+use sending::{Send};
 use slot::ReceiveHandle;
 
 pub fn flag_word(b: bool) -> u64
@@ -56,13 +56,13 @@ pub fn tag_from(owner: bool, tag: u8) -> Tag
     Tag::of(owner, TagValue(tag))
 }
 
-pub fn cookie_from(has: bool, value: u64) -> Cookie
+pub fn cookie_from(has: bool, value: u64) -> Option<AppCookie>
     ensures { result ≡ cookie_from has value }
 {
     if has {
-        return Cookie::Given(AppCookie(value));
+        return Some(AppCookie(value));
     }
-    Cookie::Absent
+    None
 }
 
 // ---- a send
@@ -86,25 +86,25 @@ pub fn is_good_send(w: &[u64; 10]) -> bool
     w[3] < 256
 }
 
-fn send_tag_from(kind: u64, tag: u8) -> SendTag
+fn send_tag_from(kind: u64, tag: u8) -> Option<Tag>
     ensures { result ≡ send_tag_from kind tag }
 {
     if kind == 0 {
-        return SendTag::Fresh;
+        return None;
     }
     if kind == 1 {
-        return SendTag::Owned(TagValue(tag));
+        return Some(Tag::Owned(TagValue(tag)));
     }
-    SendTag::Unowned(TagValue(tag))
+    Some(Tag::Unowned(TagValue(tag)))
 }
 
-fn send_mtu_from(has: bool, mtu: u64) -> SendMtu
+fn send_mtu_from(has: bool, mtu: u64) -> Option<usize>
     ensures { result ≡ send_mtu_from has mtu }
 {
     if has {
-        return SendMtu::AtMost(mtu as usize);
+        return Some(mtu as usize);
     }
-    SendMtu::Own
+    None
 }
 
 pub fn send_of(w: &[u64; 10]) -> Send
@@ -146,8 +146,8 @@ pub fn words_of(f: Fragmenter) -> [u64; 13]
         f.mtu as u64,
         flag_word(f.first),
         flag_word(f.done),
-        wide(cookie.present()),
-        cookie.value(),
+        wide(mctp::cookie_no(cookie)),
+        mctp::cookie_value(cookie),
         f.payload_used as u64,
     ]
 }
@@ -208,8 +208,8 @@ pub fn message_words(m: Message) -> [u64; 10]
         wide(m.key.tag.0),
         wide(m.typ.0),
         flag_word(m.ic.0),
-        wide(cookie.present()),
-        cookie.value(),
+        wide(mctp::cookie_no(cookie)),
+        mctp::cookie_value(cookie),
         m.at as u64,
         m.len as u64,
     ]

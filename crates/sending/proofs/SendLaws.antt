@@ -4,17 +4,16 @@ use mathlib.Core.Path.{◌≡◌, refl}
 use mathlib.Core.Bool.{false}
 use mathlib.Core.List.{List}
 use borrow.Author.Tests.{le-ltb}
+use Rattle.std.specs.Prelude.{Err, Ok, Result}
 use Rattle.octets.specs.Pick.{pick}
 use Rattle.mctp.specs.declared.Error.{Error}
 use Rattle.mctp.specs.declared.Tag.{Tag}
-use Rattle.fragment.specs.declared.Started.{Started}
-use Rattle.fragment.specs.declared.Started.TheVariants.{Refused}
 use Rattle.state.specs.declared.Sizes.{Sizes}
 use Rattle.state.specs.Stack.{Stack, Becomes, stack_of}
 use Rattle.state.proofs.Steps.{Met, then_says}
-use Rattle.sending.specs.declared.UnderTag.TheVariants.{Under, Refused as Untagged}
 use Rattle.sending.specs.declared.Send.{Send}
 use Rattle.sending.specs.Sends.{Tagged, bad_tag, send_under, send_as, send_tagged, tag_for, start_send_of}
+use Rattle.fragment.specs.declared.Fragmenter.{Fragmenter}
 
 -- where type and tag are good, the send goes on with the tag
 start_as : (q : Send) (st : Stack) → q.typ.0 ≤ 127 → bad_tag q.tag ≡ false
@@ -27,16 +26,16 @@ module _ (z : Sizes) (b : List ℕ) (q : Send) (h : q.typ.0 ≤ 127) (good : bad
   abbrev tagged : Tagged
   tagged = tag_for q.dest q.tag q.expires q.cookie (stack_of z b)
 
-  abbrev Starts : Started → List ℕ → Type 0
+  abbrev Starts : Result Fragmenter Error → List ℕ → Type 0
   Starts r y = Met z b (start_send_of q (stack_of z b)).said (start_send_of q (stack_of z b)).stack r y
 
-  pub carries : (tag : Tag) (r : Started) (x y : List ℕ) → tagged.said ≡ Under tag → Becomes z b x tagged.stack
+  pub carries : (tag : Tag) (r : Result Fragmenter Error) (x y : List ℕ) → tagged.said ≡ Ok tag → Becomes z b x tagged.stack
       → Met z x (send_under q tag (stack_of z x)).said (send_under q tag (stack_of z x)).stack r y → Starts r y
   unfolding send_as
   carries tag r x y e p m =
       rw (start_as q (stack_of z b) h good, e)
       (then_says z (λ (s : Stack). (send_under q tag s).said) (λ (s : Stack). (send_under q tag s).stack) b x y tagged.stack r p m)
 
-  pub uncarried : (err : Error) {x : List ℕ} → tagged.said ≡ Untagged err → Becomes z b x tagged.stack → Starts (Refused err) x
+  pub uncarried : (err : Error) {x : List ℕ} → tagged.said ≡ Err err → Becomes z b x tagged.stack → Starts (Err err) x
   unfolding send_as
   uncarried err e p = rw (start_as q (stack_of z b) h good, e) (refl, p)

@@ -11,10 +11,9 @@ use lib.Dec.{ltb}
 use lib.ListN.{length, get_or, drop, length-drop}
 use lib.Seq.{drop-cons, get_or-drop, drop-length}
 use borrow.Author.Tests.{ltb-true, ltb-false, lt-ltb}
+use Rattle.std.specs.Prelude.{None, Option, Some}
 use Rattle.octets.specs.Pick.{pick, pick_cases}
 use Rattle.octets.proofs.Finds.{find_hit}
-use Rattle.mctp.specs.declared.HeaderRead.{HeaderRead}
-use Rattle.mctp.specs.declared.HeaderRead.TheVariants.{Good, Bad}
 use Rattle.mctp.specs.Terms.{same_key}
 use Rattle.stamp.specs.declared.EventStamp.{EventStamp}
 use Rattle.stamp.specs.Stamp.{earlier}
@@ -25,18 +24,19 @@ use Rattle.slot.specs.Slot.{blank_slot, is_empty, is_done, handle_taken, collect
 use Rattle.slot.specs.Search.{slot_for, earliest}
 use Rattle.octets.proofs.Bools.{no_both}
 use Rattle.stamp.proofs.Order.{earlier_irreflexive, earlier_asymmetric, not-earlier_trans}
+use Rattle.mctp.specs.declared.Header.{Header}
 
 -- why a slot is found: it collects under the header's key or is empty; for a bad header it is empty
-abbrev pub FoundFor : HeaderRead → Reassembler → Type 0
-FoundFor (Good h) s = (collects h.key s ≡ true) ⊎ (is_empty s ≡ true)
-FoundFor Bad s = is_empty s ≡ true
+abbrev pub FoundFor : Option Header → Reassembler → Type 0
+FoundFor (Some h) s = (collects h.key s ≡ true) ⊎ (is_empty s ≡ true)
+FoundFor None s = is_empty s ≡ true
 
 -- below the number of slots, the slot there collects the header's key or is empty
-pub slot_for_hit : (r : HeaderRead) (slots : List Reassembler) → slot_for r slots < length slots → FoundFor r (get_or slots (slot_for r slots) blank_slot)
+pub slot_for_hit : (r : Option Header) (slots : List Reassembler) → slot_for r slots < length slots → FoundFor r (get_or slots (slot_for r slots) blank_slot)
 unfolding slot_for
-slot_for_hit Bad slots = find_hit is_empty slots blank_slot
-slot_for_hit (Good h) slots =
-    pick_cases (λ (n : ℕ). n < length slots → FoundFor (Good h) (get_or slots n blank_slot))
+slot_for_hit None slots = find_hit is_empty slots blank_slot
+slot_for_hit (Some h) slots =
+    pick_cases (λ (n : ℕ). n < length slots → FoundFor (Some h) (get_or slots n blank_slot))
     (λ _ k. inl (find_hit (collects h.key) slots blank_slot k))
     (λ _ k. inr (find_hit is_empty slots blank_slot k))
 
@@ -49,13 +49,13 @@ open_state test d o Done e = absurd (no_both e d)
 open_state test d o (HandleOut n) e = absurd (no_both e (o n))
 
 -- such a slot is not done, and has no handle out
-pub found_open : (r : HeaderRead) (s : Reassembler) → FoundFor r s → (is_done s ≡ false) × (handle_taken s ≡ false)
-found_open Bad s e = open_state empty_state refl (λ _. refl) s.state e
-found_open (Good h) s (inl e) = open_state (λ st. collects_in st (same_key s.key h.key)) refl (λ _. refl) s.state e
-found_open (Good h) s (inr e) = open_state empty_state refl (λ _. refl) s.state e
+pub found_open : (r : Option Header) (s : Reassembler) → FoundFor r s → (is_done s ≡ false) × (handle_taken s ≡ false)
+found_open None s e = open_state empty_state refl (λ _. refl) s.state e
+found_open (Some h) s (inl e) = open_state (λ st. collects_in st (same_key s.key h.key)) refl (λ _. refl) s.state e
+found_open (Some h) s (inr e) = open_state empty_state refl (λ _. refl) s.state e
 
 -- a slot that is done or has its handle out is never found
-pub slot_for_open : (r : HeaderRead) (slots : List Reassembler) → slot_for r slots < length slots
+pub slot_for_open : (r : Option Header) (slots : List Reassembler) → slot_for r slots < length slots
     → (is_done (get_or slots (slot_for r slots) blank_slot) ≡ false) × (handle_taken (get_or slots (slot_for r slots) blank_slot) ≡ false)
 slot_for_open r slots h = found_open r (get_or slots (slot_for r slots) blank_slot) (slot_for_hit r slots h)
 

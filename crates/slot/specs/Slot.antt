@@ -1,14 +1,12 @@
 -- A slot is empty, collecting or done; a done slot has a handle out or not (docs/RULES.md 37).
 -- What a slot matches, and what a handle and time do to it.
 -- Leans on `mctp` for keys, on `stamp` for time.
-use Rattle.std.specs.Prelude.{ℕ, Bool, true, false, List, [], ◌∷◌, eqb}
+use Rattle.std.specs.Prelude.{ℕ, Bool, true, false, List, [], ◌∷◌, eqb, None, Option, Some}
 use Rattle.config.specs.Config.{slot_time}
 use Rattle.octets.specs.Pick.{pick}
 use Rattle.mctp.specs.declared.Eid.{Eid}
 use Rattle.mctp.specs.declared.TagValue.{TagValue}
 use Rattle.mctp.specs.declared.Key.{Key}
-use Rattle.mctp.specs.declared.Cookie.{Cookie}
-use Rattle.mctp.specs.declared.Cookie.TheVariants.{Absent, Given}
 use Rattle.mctp.specs.Terms.{same_key, same_eid, same_tag, same_bool}
 use Rattle.stamp.specs.declared.Timeout.{Timeout}
 use Rattle.stamp.specs.declared.Timeout.TheVariants.{Untimed}
@@ -16,6 +14,7 @@ use Rattle.stamp.specs.Stamp.{timeout_of, is_expired}
 use Rattle.slot.specs.declared.State.{State}
 use Rattle.slot.specs.declared.State.TheVariants.{Empty, Collecting, Done, HandleOut}
 use Rattle.slot.specs.declared.Reassembler.{Reassembler}
+use Rattle.mctp.specs.declared.AppCookie.{AppCookie}
 
 -- an empty slot holds nothing
 abbrev pub blank_slot : Reassembler
@@ -26,7 +25,7 @@ blank_slot = record {
   ic = record { 0 = false };
   next_seq = 0;
   len = 0;
-  cookie = Absent;
+  cookie = None;
   stamp = record { clock = 0; counter = 0 };
 }
 
@@ -99,10 +98,10 @@ kept_under peer owner tag s = pick (same_eid s.key.source peer) (pick (same_bool
 unfoldable pub is_reply : Eid → TagValue → Reassembler → Bool
 is_reply peer tag s = pick (is_empty s) false (kept_under peer false tag s)
 
-abbrev pub listed : List ℕ → Cookie → Bool
+abbrev pub listed : List ℕ → Option AppCookie → Bool
 listed [] c = false
-listed (x ∷ l) Absent = false
-listed (x ∷ l) (Given c) = pick (eqb x c.0) true (listed l (Given c))
+listed (x ∷ l) None = false
+listed (x ∷ l) (Some c) = pick (eqb x c.0) true (listed l (Some c))
 
 -- time runs for a collecting slot from SOM, for a done one from EOM unless a handle is out
 abbrev pub time_in : State → Timeout → Timeout
@@ -121,5 +120,5 @@ faded_slot now s = pick (is_expired (slot_timeout now s)) blank_slot s
 abbrev pub with_state : State → Reassembler → Reassembler
 with_state state s = record { state = state; key = s.key; typ = s.typ; ic = s.ic; next_seq = s.next_seq; len = s.len; cookie = s.cookie; stamp = s.stamp }
 
-abbrev pub with_slot_cookie : Cookie → Reassembler → Reassembler
+abbrev pub with_slot_cookie : Option AppCookie → Reassembler → Reassembler
 with_slot_cookie cookie s = record { state = s.state; key = s.key; typ = s.typ; ic = s.ic; next_seq = s.next_seq; len = s.len; cookie = cookie; stamp = s.stamp }

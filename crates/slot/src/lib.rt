@@ -8,7 +8,7 @@ ghost use Rattle.std.specs.Prelude.{◌≡◌, false};
 ghost use Rattle.slot.specs.Handle.{next_issue};
 ghost use Rattle.slot.specs.Slot.{blank_slot, state_no, is_empty, is_done, handle_is, handle_taken, is_reply, kept_under, slot_timeout, with_state, with_slot_cookie};
 
-use mctp::{Cookie, Eid, Key, MsgIC, MsgType, TagValue};
+use mctp::{Eid, Key, MsgIC, MsgType, TagValue, AppCookie};
 use stamp::{EventStamp, Timeout};
 
 // A slot's index, and the number under which its handle went out.
@@ -45,7 +45,7 @@ pub struct Reassembler {
     pub ic: MsgIC,
     pub next_seq: u8,
     pub len: usize,
-    pub cookie: Cookie,
+    pub cookie: Option<AppCookie>,
     // the stamp of SOM while collecting, of EOM when done
     pub stamp: EventStamp,
 }
@@ -74,7 +74,7 @@ pub fn blank() -> Reassembler
         ic: ic,
         next_seq: 0,
         len: 0,
-        cookie: Cookie::Absent,
+        cookie: None,
         stamp: stamp,
     }
 }
@@ -127,7 +127,7 @@ impl Reassembler {
     }
 
     // The same slot in another state and under another cookie.
-    fn with(self, state: State, cookie: Cookie) -> Reassembler
+    fn with(self, state: State, cookie: Option<AppCookie>) -> Reassembler
         ensures { result ≡ with_state state (with_slot_cookie cookie self) }
     {
         let key = self.key;
@@ -160,7 +160,7 @@ impl Reassembler {
         self.with(State::Done, cookie)
     }
 
-    pub fn set_cookie(self, cookie: Cookie) -> Reassembler
+    pub fn set_cookie(self, cookie: Option<AppCookie>) -> Reassembler
         ensures { result ≡ with_slot_cookie cookie self }
     {
         let state = self.state;

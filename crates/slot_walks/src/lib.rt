@@ -14,7 +14,7 @@ ghost use Rattle.stamp.specs.Checks.{check_of};
 ghost use Rattle.state.specs.Times.{slot_times};
 ghost use Rattle.slot_walks.specs.SlotWalks.{swept, blocked, has_word, better_of, chosen};
 
-use mctp::{Cookie, Eid, Key, TagValue};
+use mctp::{Eid, Key, TagValue, AppCookie};
 use slot::Reassembler;
 use stamp::Check;
 use state::Sizes;
@@ -124,17 +124,17 @@ enum Choice {
 }
 
 // Whether a cookie is one of a list.
-fn is_listed(cookies: &[u64], cookie: Cookie) -> bool
+fn is_listed(cookies: &[u64], cookie: Option<AppCookie>) -> bool
     ensures { result ≡ listed cookies.now cookie }
 {
     match cookie {
-        Cookie::Absent => false,
-        Cookie::Given(c) => contains(cookies, c.0),
+        None => false,
+        Some(c) => contains(cookies, c.0),
     }
 }
 
 fn contains(cookies: &[u64], x: u64) -> bool
-    ensures { result ≡ listed cookies.now (Cookie.Given (record { 0 = x })) }
+    ensures { result ≡ listed cookies.now (Some (record { 0 = x })) }
 {
     let mut i = 0;
     while i < cookies.len() {

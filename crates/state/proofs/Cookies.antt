@@ -5,12 +5,14 @@ use mathlib.Core.List.{[], ◌∷◌}
 use denote.Laws.{Is}
 use denote.Enum.Declared.{row}
 use denote.Enum.Laws.{val, owed}
-use Rattle.mctp.specs.declared.Cookie.{Cookie}
-use Rattle.mctp.specs.declared.Cookie.TheVariants.{Absent, Given}
+use Rattle.std.specs.Prelude.{None, Option, Some}
 use Rattle.mctp.specs.Terms.{cookie_value}
-use Rattle.mctp.specs.contracts.Cookie as cookie
-use Rattle.mctp.proofs.Cookie.TheLaws as laws
+use Rattle.std.specs.contracts.option.Option as option
+use Rattle.std.proofs.option.Option.TheLaws as laws
+use Rattle.mctp.specs.contracts.AppCookie as app
+use Rattle.mctp.proofs.AppCookie.TheLaws as app_laws
+use Rattle.mctp.specs.declared.AppCookie.{AppCookie}
 
-pub cookie_fits : (k : Cookie) → Is (row cookie.the_type) k (val cookie.the_type laws.the_laws k ∷ []) → cookie_value k < 2 ^ 64
-cookie_fits Absent g = omega arith
-cookie_fits (Given n) g = let h = owed cookie.the_type laws.the_laws (Given n) (val cookie.the_type laws.the_laws (Given n) ∷ []) g in omega arith
+pub cookie_fits : (k : Option AppCookie) → Is (row (option.the_type app.the_row)) k (val (option.the_type app.the_row) (laws.the_laws app.the_row app_laws.the_row_laws app_laws.the_told) k ∷ []) → cookie_value k < 2 ^ 64
+cookie_fits None g = omega arith
+cookie_fits (Some n) g = let h = owed (option.the_type app.the_row) (laws.the_laws app.the_row app_laws.the_row_laws app_laws.the_told) (Some n) (val (option.the_type app.the_row) (laws.the_laws app.the_row app_laws.the_row_laws app_laws.the_told) (Some n) ∷ []) g in omega arith

@@ -16,7 +16,7 @@ ghost use Rattle.stamp.specs.Stamp.{next};
 ghost use Rattle.state.specs.Stack.{ticked, Kept, Becomes, stack_of, slot_at, flow_at, with_slot, with_flow, with_head};
 
 use flows::Flow;
-use mctp::{Cookie, Eid, Key, TagValue};
+use mctp::{Eid, Key, TagValue};
 use octets::{beyond, get1, get2, get4, get8, put1, put2, put4, put8};
 use slot::{Reassembler, State};
 use stamp::EventStamp;
@@ -224,7 +224,7 @@ fn read_slot(b: &[u8]) -> Reassembler
     let counter = get4(b, 8);
     let clock = get8(b, 16);
     let state = state_from(get1(b, 0), get8(b, 32));
-    let cookie = Cookie::of(get1(b, 12), get8(b, 24));
+    let cookie = mctp::cookie_of(get1(b, 12), get8(b, 24));
     let t = mctp::decode_type_ic(get1(b, 4));
     let tag = TagValue(o % 8);
     let key = Key {
@@ -295,9 +295,9 @@ pub fn write_slot(b: &mut [u8], s: Reassembler)
     write_rest(
         b,
         t.counter,
-        c.present() as u32,
+        mctp::cookie_no(c) as u32,
         t.clock,
-        c.value(),
+        mctp::cookie_value(c),
         issue_no(state),
     );
 }

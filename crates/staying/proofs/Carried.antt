@@ -11,26 +11,21 @@ use lib.Dec.{eqb}
 use lib.ListN.{length, get_or}
 use lib.Seq.{get_or-set_other}
 use borrow.Author.Tests.{ltb-false, eqb-true, not-true}
+use Rattle.std.specs.Prelude.{Err, None, Ok, Option, Result, Some}
 use Rattle.octets.specs.Pick.{pick, pick_cases}
 use Rattle.octets.proofs.Bools.{bool_cases}
 use Rattle.mctp.specs.declared.Key.{Key}
 use Rattle.mctp.specs.declared.Header.{Header}
-use Rattle.mctp.specs.declared.HeaderRead.{HeaderRead}
-use Rattle.mctp.specs.declared.HeaderRead.TheVariants.{Good, Bad}
 use Rattle.mctp.specs.Terms.{same_key}
 use Rattle.mctp.specs.Header.{header_of, lead}
 use Rattle.mctp.specs.Answer.{gives}
 use Rattle.slot.specs.declared.Reassembler.{Reassembler}
 use Rattle.slot.specs.Slot.{blank_slot, is_empty, collects}
 use Rattle.slot.specs.Search.{slot_for}
-use Rattle.reassemble.specs.declared.Entry.{Entry}
-use Rattle.reassemble.specs.declared.Gate.{Gate}
-use Rattle.reassemble.specs.declared.Gate.TheVariants.{Shut, Pass}
 use Rattle.reassemble.specs.Enter.{enter, appended}
 use Rattle.fragment.specs.Cutting.{body_in, PacketIs, InTurn, joined, kind_in, Carries}
 use Rattle.state.specs.Stack.{Stack, slot_at, ticked}
 use Rattle.slot.specs.declared.ReceiveHandle.{ReceiveHandle}
-use Rattle.receiving.specs.declared.Received.TheVariants.{Message as Told}
 use Rattle.slot.specs.Handle.{handle_words}
 use Rattle.receiving.specs.Receive.{Receipt, settled, land, counted_opening, gate_of, receive_at, receive_by, receive_of}
 use Rattle.promises.specs.Calls.{Call, receive, World, step, steps, receipt, performed, has_key}
@@ -47,17 +42,19 @@ use Rattle.promises.proofs.Taking.{taken, slot_now, alone, base_collects, here_s
 use Rattle.promises.proofs.Runs.{log, took_log, quiet_log, steps_inv, fresh_inv}
 use Rattle.promises.proofs.Told.{told, told_here}
 use Rattle.staying.specs.Packets.{packets_of, longest}
+use Rattle.mctp.specs.declared.Error.{Error}
+use Rattle.reassemble.specs.declared.Intake.{Intake}
 
 -- ---- a packet that is taken is whole: its header is good, and with SOM its type byte is there
 
-abbrev is_good_header : HeaderRead → Bool
-is_good_header (Good h) = true
-is_good_header Bad = false
+abbrev is_good_header : Option Header → Bool
+is_good_header (Some h) = true
+is_good_header None = false
 
-good_long : (p : List ℕ) (h : Header) → header_of p ≡ Good h → 4 ≤ length p
+good_long : (p : List ℕ) (h : Header) → header_of p ≡ Some h → 4 ≤ length p
 unfolding header_of
 good_long p h =
-    pick_cases (λ (r : HeaderRead). r ≡ Good h → 4 ≤ length p) (λ _ e. absurd (no_true (ap is_good_header e))) (λ n _. ltb-false (length p) 4 n)
+    pick_cases (λ (r : Option Header). r ≡ Some h → 4 ≤ length p) (λ _ e. absurd (no_true (ap is_good_header e))) (λ n _. ltb-false (length p) 4 n)
 
 lead_four : (b : Bool) (n : ℕ) → b ≡ false → 4 ≤ n → lead b ≤ n
 lead_four b n e l = rw e l
@@ -66,25 +63,25 @@ lead_five : (b : Bool) (n : ℕ) → 5 ≤ n → lead b ≤ n
 lead_five true n l = l
 lead_five false n l = omega arith
 
-module _ (B : ℕ) (p : List ℕ) (h : Header) (read : header_of p ≡ Good h) where
+module _ (B : ℕ) (p : List ℕ) (h : Header) (read : header_of p ≡ Some h) where
   Long : Receipt → Type 0
   Long r = takes r.said ≡ true → lead h.som ≤ length p
 
-  land_long : (i : ℕ) (st : Stack) (g : Gate) → Long (land B i st h p g)
+  land_long : (i : ℕ) (st : Stack) (g : Result Reassembler Error) → Long (land B i st h p g)
   unfolding land enter Long
-  land_long i st (Shut err) = λ e. absurd (no_true e)
-  land_long i st (Pass s) =
+  land_long i st (Err err) = λ e. absurd (no_true e)
+  land_long i st (Ok s) =
       pick_cases P (λ _. pick_cases P (λ _ e. absurd (no_true e)) (λ n _. lead_five h.som (length p) (ltb-false (length p) 5 n)))
       (λ n _. lead_four h.som (length p) n (good_long p h read))
     where
-      P : Entry → Type 0
+      P : Result Intake Error → Type 0
       P e = takes (settled B i (ticked st) h.key p e).said ≡ true → lead h.som ≤ length p
 
-  at_long : (i : ℕ) (st : Stack) (r : HeaderRead) → header_of p ≡ r → Long (receive_at B i st p r)
+  at_long : (i : ℕ) (st : Stack) (r : Option Header) → header_of p ≡ r → Long (receive_at B i st p r)
   unfolding receive_at Long
-  at_long i st Bad again = λ e. absurd (no_true e)
-  at_long i st (Good g) again =
-      let same : Good g ≡ Good h = sym again ∙ read in
+  at_long i st None again = λ e. absurd (no_true e)
+  at_long i st (Some g) again =
+      let same : Some g ≡ Some h = sym again ∙ read in
       let k : g ≡ h = cc in
       subst (λ (x : Header). takes (land B i (counted_opening (is_empty (slot_at i st)) st) x p (gate_of i st x)).said ≡ true → lead h.som ≤ length p) (sym k)
       (land_long i (counted_opening (is_empty (slot_at i st)) st) (gate_of i st h))
@@ -112,7 +109,7 @@ module _ (P : Taken → Type 0) where
 
 -- a packet that was read, and is whole
 record Read (t : Taken) : Type 0 where
-  pub header : header_of t.packet ≡ Good t.header
+  pub header : header_of t.packet ≡ Some t.header
   pub whole : lead t.header.som ≤ length t.packet
 
 -- and has that key
@@ -135,9 +132,9 @@ noted_read : (B : ℕ) (st : Stack) (room : ℕ) (lent : Bool) (p : List ℕ) (H
 unfolding noted Each
 noted_read B st room lent p H a = pick_cases (Each Read) (λ y. go y (header_of p) refl) (λ _. a)
   where
-    go : takes (receive_of B st room p).said ≡ true → (r : HeaderRead) → header_of p ≡ r → Each Read (note st lent r p H)
-    go y Bad e = a
-    go y (Good h) e = (record { header = e; whole = taken_long B p h e st room y }, a)
+    go : takes (receive_of B st room p).said ≡ true → (r : Option Header) → header_of p ≡ r → Each Read (note st lent r p H)
+    go y None e = a
+    go y (Some h) e = (record { header = e; whole = taken_long B p h e st room y }, a)
 
 logged_read : (B : ℕ) (c : Call) (w : World) (H : List Taken) → Each Read H → Each Read (logged B c w H)
 unfolding logged
@@ -249,7 +246,7 @@ last_more (x ∷ y ∷ l) t a e =
 
 -- a receive that hands out closes what stands under its key
 closes : (B : ℕ) (H : List Taken) (w : World) → Inv B H w → Going H w.stack.slots → (p : List ℕ) (lent : Bool) (r : Receipt) → Outcome B w.stack p r
-    → (k : ReceiveHandle) → r.said ≡ Told k → (K : Key) → has_key K (header_of p) ≡ true → last_alone (since K (noted r.said w.stack lent p H)) ≡ true
+    → (k : ReceiveHandle) → r.said ≡ Ok (Some k) → (K : Key) → has_key K (header_of p) ≡ true → last_alone (since K (noted r.said w.stack lent p H)) ≡ true
 unfolding last_alone
 closes B H w v g p lent r (quiet s b n) k y K q = absurd (no_both (takes r.said) (ap takes y) n)
 closes B H w v g p lent r (dropped i h read src s b n) k y K q = absurd (no_both (takes r.said) (ap takes y) n)
@@ -267,7 +264,7 @@ module _ (K : Key) (mtu : ℕ) where
   is_packet : (t : Taken) (som eom : Bool) (n : ℕ) → Of K t → length t.packet ≤ mtu → t.header.som ≡ som → t.header.eom ≡ eom → t.header.seq ≡ n
       → PacketIs K mtu som eom n t.packet
   is_packet t som eom n o l s e q = record {
-    header = o.read.header ∙ ap Good (λ i. record { key = o.key i; som = s i; eom = e i; seq = q i });
+    header = o.read.header ∙ ap Some (λ i. record { key = o.key i; som = s i; eom = e i; seq = q i });
     whole = rw s at o.read.whole;
     within = l;
   }

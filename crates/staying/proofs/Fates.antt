@@ -11,12 +11,11 @@ use mathlib.Core.List.{List, [], ◌∷◌}
 use lib.Dec.{ltb}
 use lib.ListN.{length, get_or, set, take, length-set, length-map}
 use borrow.Author.Tests.{ltb-true, eq-eqb, not-true}
+use Rattle.std.specs.Prelude.{Err, Ok, Result}
 use Rattle.octets.specs.Pick.{pick_true, pick_false, pick_cases}
 use Rattle.octets.proofs.Bools.{bool_cases}
 use Rattle.octets.proofs.Each.{get_d_set, get_d_mapped}
 use Rattle.mctp.specs.declared.Eid.{Eid}
-use Rattle.mctp.specs.declared.EidRead.{EidRead}
-use Rattle.mctp.specs.declared.EidRead.TheVariants.{Normal, Refused as NotNormal}
 use Rattle.mctp.specs.declared.TagValue.{TagValue}
 use Rattle.mctp.specs.declared.Tag.{Tag}
 use Rattle.mctp.specs.declared.Header.{Header}
@@ -38,7 +37,6 @@ use Rattle.slot_walks.specs.SlotWalks.{swept, blocked}
 use Rattle.slot.specs.declared.ReceiveHandle.{ReceiveHandle}
 use Rattle.slot.specs.Handle.{next_issue}
 use Rattle.receiving.specs.Receive.{Receipt}
-use Rattle.handles.specs.declared.Done.TheVariants.{Well}
 use Rattle.handles.specs.Handles as handles
 use Rattle.handles.specs.Handles.{Lookup, handled, take_of, by_source_of}
 use Rattle.sending.specs.Sends.{start_send_of}
@@ -53,6 +51,7 @@ use Rattle.promises.proofs.Clock.{send_same}
 use Rattle.promises.proofs.Walks.{faded_blank, swept-count}
 use Rattle.promises.proofs.Stale.{good_is}
 use Rattle.staying.specs.Staying.{same_handle, names, tells_of, checks_at, walks_to, ends}
+use Rattle.mctp.specs.declared.Error.{Error}
 
 -- ---- what a call looks at
 
@@ -136,9 +135,9 @@ module _ (B : ℕ) (c : Call) (st : Stack) where
   unfolding by_source_of Looks
   source_fates source tag = pick_cases Looks (λ _ _. kept st refl) (λ _. take_fates (kept_under source (is_owner tag) (tag_of tag)))
 
-  eid_fates : (r : EidRead) → Fates B c st (eid_set r st).stack
-  eid_fates (Normal own) = kept (eid_set (Normal own) st).stack refl
-  eid_fates (NotNormal err) = kept st refl
+  eid_fates : (r : Result Eid Error) → Fates B c st (eid_set r st).stack
+  eid_fates (Ok own) = kept (eid_set (Ok own) st).stack refl
+  eid_fates (Err err) = kept st refl
 
   -- ---- by a packet: into a slot that collects or is empty
 
@@ -226,7 +225,7 @@ module _ (peer : Eid) (tag : TagValue) where
       fate n k s' (passed q) = stays q
       fate n k s' (freed q o y b) = goes q o (λ _. and_both (walks_to k peer tag st) _ (and_both _ _ (ap not n) (ap not b)) y)
 
-      walk : ltb 7 tag.0 ≡ false → (l : List Flow) → P (record { stack = record { head = st.head; flows = l; slots = swept peer tag st.slots }; said = Well })
+      walk : ltb 7 tag.0 ≡ false → (l : List Flow) → P (record { stack = record { head = st.head; flows = l; slots = swept peer tag st.slots }; said = Ok tt })
       walk n l = record { each = λ k. fate n k _ (swept_walks st.slots k); count = swept-count peer tag st.slots }
 
 -- ---- every call

@@ -9,6 +9,7 @@ use lib.Dec.{ltb}
 use lib.ListN.{length, get_or, set, take, length-set}
 use lib.Seq.{get_or-set_same}
 use borrow.Author.Tests.{eq-eqb, eqb-true, ltb-true, ltb-false, not-true}
+use Rattle.std.specs.Prelude.{None, Option, Some}
 use Rattle.config.specs.Config.{slot_time}
 use Rattle.octets.specs.Pick.{pick, pick_cases}
 use Rattle.octets.proofs.Bools.{bool_cases}
@@ -28,8 +29,6 @@ use Rattle.state.specs.Stack.{Stack, Kept, stack_of, slot_at}
 use Rattle.slot_walks.specs.SlotWalks.{swept, blocked}
 use Rattle.slot.specs.declared.ReceiveHandle.{ReceiveHandle}
 use Rattle.slot.specs.Handle.{next_issue}
-use Rattle.handles.specs.declared.Deferred.{Deferred}
-use Rattle.handles.specs.declared.Deferred.TheVariants.{Found, Nothing}
 use Rattle.handles.specs.Handles as handles
 use Rattle.handles.specs.Handles.{Lookup, is_good, message_in, take_of, by_source_of}
 use Rattle.updating.specs.Update.{checked, update_of}
@@ -185,11 +184,11 @@ kept_returned z b ok pool i calls d rests = returned_stays z.body i calls (recor
 
 -- ---- a lookup
 
-abbrev is_found : Deferred → Bool
-is_found (Found x) = true
-is_found Nothing = false
+abbrev is_found : Option ReceiveHandle → Bool
+is_found (Some x) = true
+is_found None = false
 
-not_found : {h : ReceiveHandle} → Nothing ≡ Found h → ⊥
+not_found : {h : ReceiveHandle} → None ≡ Some h → ⊥
 not_found e = no_true (ap is_found e)
 
 -- a lookup has told h: the message of slot k is under it
@@ -198,10 +197,10 @@ record Takes (k : ℕ) (st : Stack) (h : ReceiveHandle) (r : Lookup) : Type 0 wh
   pub slot : slot_at k r.stack ≡ with_state (HandleOut h.issue) (slot_at k st)
   pub count : length r.stack.slots ≡ length st.slots
 
-takes : (k : ℕ) (st : Stack) (h : ReceiveHandle) → (take_of k st).said ≡ Found h → Takes k st h (take_of k st)
+takes : (k : ℕ) (st : Stack) (h : ReceiveHandle) → (take_of k st).said ≡ Some h → Takes k st h (take_of k st)
 unfolding take_of
 takes k st h =
-    pick_cases (λ (r : Lookup). r.said ≡ Found h → Takes k st h r)
+    pick_cases (λ (r : Lookup). r.said ≡ Some h → Takes k st h r)
     (λ q e. let z : record { index = k; issue = next_issue st.head.issue } ≡ h = cc in
     let s = with_state (HandleOut (next_issue st.head.issue)) (slot_at k st) in
     record {
@@ -223,18 +222,18 @@ take_fetches B k w h r room t =
       message = ap (λ (s : Reassembler). read_from w.pool (message_in B h.index s)) at;
     }
 
-source_takes : (source : Eid) (tag : Tag) (st : Stack) (h : ReceiveHandle) → (by_source_of source tag st).said ≡ Found h
+source_takes : (source : Eid) (tag : Tag) (st : Stack) (h : ReceiveHandle) → (by_source_of source tag st).said ≡ Some h
     → Takes h.index st h (by_source_of source tag st)
 unfolding by_source_of
 source_takes source tag st h =
-    pick_cases (λ (r : Lookup). r.said ≡ Found h → Takes h.index st h r) (λ _ e. absurd (not_found e))
+    pick_cases (λ (r : Lookup). r.said ≡ Some h → Takes h.index st h r) (λ _ e. absurd (not_found e))
     (λ _ e. own (takes (earliest (kept_under source (is_owner tag) (tag_of tag)) st.slots) st h e))
   where
     own : {k : ℕ} {r : Lookup} → Takes k st h r → Takes h.index st h r
     own {k = k} {r = r} t = subst (λ (x : ℕ). Takes x st h r) (sym t.index) t
 
 -- whatever the world: a lookup that finds a message hands over, under the handle that it tells, the message as it stood in that slot
-pub lookup_gives : (B : ℕ) (c : Call) (w : World) (h : ReceiveHandle) → B * length w.stack.slots ≤ length w.pool → tells c w.stack ≡ Found h
+pub lookup_gives : (B : ℕ) (c : Call) (w : World) (h : ReceiveHandle) → B * length w.stack.slots ≤ length w.pool → tells c w.stack ≡ Some h
     → Fetches B h (message_at B h.index w) (step B c w)
 unfolding step
 lookup_gives B (receive p) w h room e = absurd (not_found e)
@@ -259,7 +258,7 @@ lookup_gives B (free_tags peer) w h room e = absurd (not_found e)
 -- a message with no handle out: after any calls that do not end it, a lookup that takes it hands over that same message
 pub returned_found : (B i : ℕ) (calls : List Call) (c : Call) (h : ReceiveHandle) (w : World)
     → B * length w.stack.slots ≤ length w.pool → is_done (slot_at i w.stack) ≡ true → (slot_at i w.stack).len ≤ B → untouched B i calls w ≡ true
-    → tells c (steps B calls w).stack ≡ Found h → h.index ≡ i → Fetches B h (message_at B i w) (step B c (steps B calls w))
+    → tells c (steps B calls w).stack ≡ Some h → h.index ≡ i → Fetches B h (message_at B i w) (step B c (steps B calls w))
 returned_found B i calls c h w room d l ok e at =
     let w' = steps B calls w in
     subst (λ (m : Message). Fetches B h m (step B c w')) (ap (λ (j : ℕ). message_at B j w') at ∙ (returned_stays B i calls w d l ok).1)
@@ -288,7 +287,7 @@ put_back B h w g =
 pub comes_back : (B : ℕ) (h k : ReceiveHandle) (calls : List Call) (c : Call) (w : World)
     → is_good h w.stack ≡ true → (slot_at h.index w.stack).len ≤ B → B * length w.stack.slots ≤ length w.pool
     → untouched B h.index calls (step B (return_handle h) w) ≡ true
-    → tells c (steps B calls (step B (return_handle h) w)).stack ≡ Found k → k.index ≡ h.index
+    → tells c (steps B calls (step B (return_handle h) w)).stack ≡ Some k → k.index ≡ h.index
     → Fetches B k (message_at B h.index w) (step B c (steps B calls (step B (return_handle h) w)))
 unfolding steps
 comes_back B h k calls c w g l room ok e at =
@@ -301,7 +300,7 @@ comes_back B h k calls c w g l room ok e at =
 -- k that the lookup tells fetches m. Nothing is asked of the world
 pub handed_back : (B : ℕ) (m : Message) (p : List ℕ) (w : World) (d : Hands B m p w) (before after : List Call) (c : Call) (k : ReceiveHandle)
     → let w₁ = step B (return_handle d.handle) (steps B before (step B (receive p) w)) in
-    all_of (spares d.handle) before ≡ true → untouched B d.handle.index after w₁ ≡ true → tells c (steps B after w₁).stack ≡ Found k
+    all_of (spares d.handle) before ≡ true → untouched B d.handle.index after w₁ ≡ true → tells c (steps B after w₁).stack ≡ Some k
     → k.index ≡ d.handle.index → Fetches B k m (step B c (steps B after w₁))
 handed_back B m p w d before after c k ok rests e at =
     let w₀ = steps B before (step B (receive p) w) in

@@ -5,12 +5,12 @@ use mathlib.Core.Bool.{true, false}
 use mathlib.Core.List.{List, [], ◌∷◌}
 use lib.Dec.{lit≤}
 use lib.ListN.{replicate}
+use Rattle.std.specs.Prelude.{None, Some}
 use Rattle.octets.specs.Pick.{pick}
 use Rattle.octets.specs.Find.{find}
 use Rattle.octets.specs.Bytes.{part, over}
 use Rattle.mctp.specs.declared.Tag.TheVariants.{Owned}
 use Rattle.mctp.specs.declared.Header.{Header}
-use Rattle.mctp.specs.declared.Cookie.TheVariants.{Absent, Given}
 use Rattle.mctp.specs.Terms.{same_key, same_bool}
 use Rattle.mctp.specs.Header.{header_of}
 use Rattle.stamp.specs.Stamp.{next, clocked, expired, timeout_of}
@@ -28,8 +28,6 @@ use Rattle.slot.specs.Handle.{next_issue}
 use Rattle.receiving.specs.Receive.{land, receive_at, receive_by, receive_of}
 use Rattle.handles.specs.Handles.{is_good, handled, take_of, by_source_of}
 use Rattle.sending.specs.declared.Send.{Send}
-use Rattle.sending.specs.declared.SendTag.TheVariants.{Fresh}
-use Rattle.sending.specs.declared.SendMtu.TheVariants.{Own}
 use Rattle.sending.specs.Sends.{owned_tag, tag_for, send_as, start_send_of}
 use Rattle.updating.specs.Update.{checked, update_of}
 use Rattle.estack.specs.Basics.{cancel_of}
@@ -65,7 +63,7 @@ held = steps 1032 (receive one ∷ []) start
 abbrev much : List Call
 much =
     update 100000 ∷ receive other ∷ elsewhere 5000 one ∷ get_deferred (record { 0 = 9 }) (Owned (record { 0 = 1 })) ∷ get_deferred_by_cookie (7 ∷ []) ∷ cancel_flow (record { 0 = 9 }) (record { 0 = 1 })
-    ∷ finished_receive (record { index = 0; issue = 2 }) ∷ return_handle (record { index = 1; issue = 1 }) ∷ set_cookie (record { index = 1; issue = 2 }) (Given (record { 0 = 5 })) ∷ set_eid 20 ∷ []
+    ∷ finished_receive (record { index = 0; issue = 2 }) ∷ return_handle (record { index = 1; issue = 1 }) ∷ set_cookie (record { index = 1; issue = 2 }) (Some (record { 0 = 5 })) ∷ set_eid 20 ∷ []
 
 -- it is good, and its message is as it was
 pub held_stays : (is_good first (steps 1032 much held).stack ≡ true) × (message_at 1032 0 (steps 1032 much held) ≡ message_at 1032 0 held)
@@ -78,10 +76,10 @@ unfolding is_local find pick steps step next receive_of receive_by receive_at he
 held_body = refl
 
 -- a cookie is set, and the same calls come: the message has that cookie, and is as it was otherwise
-pub held_cookie : let w = steps 1032 much (step 1032 (set_cookie first (Given (record { 0 = 7 }))) held) in
-    (is_good first w.stack ≡ true) × (message_at 1032 0 w ≡ with_cookie (Given (record { 0 = 7 })) (message_at 1032 0 held))
+pub held_cookie : let w = steps 1032 much (step 1032 (set_cookie first (Some (record { 0 = 7 }))) held) in
+    (is_good first w.stack ≡ true) × (message_at 1032 0 w ≡ with_cookie (Some (record { 0 = 7 })) (message_at 1032 0 held))
 unfolding is_local find pick steps step next receive_of receive_by receive_at header_of slot_for gate gate_empty gate_reply opening land enter append next_issue same_key same_bool over is_good
-held_cookie = cookie_stays 1032 first (Given (record { 0 = 7 })) much held refl (lit≤ tt) refl
+held_cookie = cookie_stays 1032 first (Some (record { 0 = 7 })) much held refl (lit≤ tt) refl
 
 -- ---- a message that was put back
 
@@ -121,7 +119,7 @@ held_back =
 -- ---- a flow
 
 abbrev query : Send
-query = record { dest = record { 0 = 9 }; typ = record { 0 = 1 }; tag = Fresh; expires = true; ic = record { 0 = false }; mtu = Own; cookie = Absent }
+query = record { dest = record { 0 = 9 }; typ = record { 0 = 1 }; tag = None; expires = true; ic = record { 0 = false }; mtu = None; cookie = None }
 
 -- a send under a fresh tag, which is 1
 abbrev asked : World

@@ -6,54 +6,37 @@ use mathlib.Core.Path.{◌≡◌, refl, sym, ap, subst, ◌∙◌}
 use mathlib.Core.Bool.{Bool, true, false}
 use mathlib.Core.List.{List, [], ◌∷◌}
 use lib.ListN.{length, get_or, replicate}
+use Rattle.std.specs.Prelude.{Err, None, Ok, Option, Result, Some}
 use Rattle.config.specs.Config.{flow_count}
 use Rattle.octets.specs.Pick.{pick, pick_false, pick_cases}
 use Rattle.octets.proofs.Bools.{no_both}
 use Rattle.mctp.specs.declared.Eid.{Eid}
-use Rattle.mctp.specs.declared.EidRead.{EidRead}
-use Rattle.mctp.specs.declared.EidRead.TheVariants.{Normal, Refused as NotNormal}
 use Rattle.mctp.specs.declared.TagValue.{TagValue}
 use Rattle.mctp.specs.declared.Tag.{Tag}
 use Rattle.mctp.specs.declared.Header.{Header}
-use Rattle.mctp.specs.declared.HeaderRead.{HeaderRead}
-use Rattle.mctp.specs.declared.HeaderRead.TheVariants.{Good, Bad}
 use Rattle.mctp.specs.Terms.{normal_eid, tag_of, is_owner}
 use Rattle.mctp.specs.Header.{header_of}
 use Rattle.mctp.specs.Answer.{gives, answer_no}
 use Rattle.mctp.proofs.Answers.{error_some}
 use Rattle.stamp.specs.Stamp.{next}
 use Rattle.flows.specs.declared.Flow.{Flow}
-use Rattle.flows.specs.declared.Wish.{Wish}
-use Rattle.flows.specs.declared.Wish.TheVariants.{Fresh as AnyTag, Fixed}
 use Rattle.flows.specs.Table.{no_flow, is_flow, standing, removed, Unique}
 use Rattle.flows.proofs.TableLaws.{free_not, removed_unique, removed_gone, set_flow_unique, faded_unique}
 use Rattle.slot.specs.declared.Reassembler.{Reassembler}
 use Rattle.slot.specs.Slot.{blank_slot, is_empty, kept_under, listed, with_state, with_slot_cookie}
 use Rattle.slot.specs.declared.State.TheVariants.{Done}
 use Rattle.slot.specs.Search.{slot_for, earliest}
-use Rattle.reassemble.specs.declared.Entry.{Entry}
-use Rattle.reassemble.specs.declared.Entry.TheVariants.{Frees, Takes}
-use Rattle.reassemble.specs.declared.Gate.{Gate}
-use Rattle.reassemble.specs.declared.Gate.TheVariants.{Shut, Pass}
 use Rattle.reassemble.specs.Enter.{enter}
 use Rattle.state.specs.declared.Sizes.{Sizes}
 use Rattle.state.specs.Stack.{Stack, slot_at, ticked}
 use Rattle.flow_walks.specs.FlowWalks.{table_of}
 use Rattle.slot.specs.declared.ReceiveHandle.{ReceiveHandle}
-use Rattle.receiving.specs.declared.Received.{Received}
-use Rattle.receiving.specs.declared.Received.TheVariants.{More, Message as Told, Refused}
 use Rattle.slot.specs.Handle.{next_issue, handle_words}
 use Rattle.receiving.specs.Conclude.{said_of, flows_after}
 use Rattle.receiving.specs.Receive.{Receipt, settled, land, counted_opening, gate_of, receive_at, receive_by, receive_of}
-use Rattle.handles.specs.declared.Done as answers
-use Rattle.handles.specs.declared.Done.TheVariants.{Well, Refused as Unwell}
 use Rattle.handles.specs.Handles as handles
 use Rattle.handles.specs.Handles.{Lookup, done_as, handled, take_of, by_source_of}
 use Rattle.sending.specs.declared.Send.{Send}
-use Rattle.sending.specs.declared.UnderTag.{UnderTag}
-use Rattle.sending.specs.declared.UnderTag.TheVariants.{Under, Refused as Untagged}
-use Rattle.sending.specs.declared.SendTag.{SendTag}
-use Rattle.sending.specs.declared.SendTag.TheVariants.{Fresh, Owned, Unowned}
 use Rattle.sending.specs.Sends.{Sent, owned_tag, tag_for, send_as, send_tagged, start_send_of}
 use Rattle.updating.specs.Update.{Update, checked, update_of}
 use Rattle.estack.specs.Basics.{fresh_stack, eid_set, cancel_of}
@@ -61,39 +44,43 @@ use Rattle.promises.specs.Calls.{Call, receive, elsewhere, update, start_send, c
 use Rattle.promises.proofs.Facts.{no_true, is_false}
 use Rattle.promises.proofs.Fetch.{as_told}
 use Rattle.staying.specs.Staying.{flows_of}
+use Rattle.mctp.specs.declared.Error.{Error}
+use Rattle.reassemble.specs.declared.Intake.{Intake}
+use Rattle.mctp.specs.declared.Tag.TheVariants.{Owned}
+use Rattle.mctp.specs.declared.Tag.TheVariants.{Unowned}
 
 -- ---- a receive: the flows stay, or a message is handed out and its reply's flow goes
 
-abbrev hands : Received → Bool
-hands More = false
-hands (Told h) = true
-hands (Refused err) = false
+abbrev hands : Result (Option ReceiveHandle) Error → Bool
+hands (Ok None) = false
+hands (Ok (Some h)) = true
+hands (Err err) = false
 
 data Flowing (l : List Flow) (p : List ℕ) (r : Receipt) : Type 0 where
   stay : r.stack.flows ≡ l → hands r.said ≡ false → Flowing l p r
-  close : (h : Header) → header_of p ≡ Good h → r.stack.flows ≡ pick h.key.owner l (removed h.key.source h.key.tag l) → Flowing l p r
+  close : (h : Header) → header_of p ≡ Some h → r.stack.flows ≡ pick h.key.owner l (removed h.key.source h.key.tag l) → Flowing l p r
 
 module _ (B : ℕ) (p : List ℕ) where
-  by_whole : (l : List Flow) (h : Header) → header_of p ≡ Good h → (whole : Bool) (i n : ℕ) (r : Receipt)
+  by_whole : (l : List Flow) (h : Header) → header_of p ≡ Some h → (whole : Bool) (i n : ℕ) (r : Receipt)
       → r.stack.flows ≡ flows_after whole h.key l → r.said ≡ said_of whole i n → Flowing l p r
   by_whole l h read true i n r e f = close h read e
   by_whole l h read false i n r e f = stay e (ap hands f)
 
-  settled_flowing : (h : Header) → header_of p ≡ Good h → (i : ℕ) (st : Stack) (e : Entry) → Flowing st.flows p (settled B i st h.key p e)
-  settled_flowing h read i st (Frees err) = stay refl refl
-  settled_flowing h read i st (Takes t) = by_whole st.flows h read t.whole i (next_issue st.head.issue) (settled B i st h.key p (Takes t)) refl refl
+  settled_flowing : (h : Header) → header_of p ≡ Some h → (i : ℕ) (st : Stack) (e : Result Intake Error) → Flowing st.flows p (settled B i st h.key p e)
+  settled_flowing h read i st (Err err) = stay refl refl
+  settled_flowing h read i st (Ok t) = by_whole st.flows h read t.whole i (next_issue st.head.issue) (settled B i st h.key p (Ok t)) refl refl
 
-  land_flowing : (h : Header) → header_of p ≡ Good h → (i : ℕ) (st : Stack) (g : Gate) → Flowing st.flows p (land B i st h p g)
+  land_flowing : (h : Header) → header_of p ≡ Some h → (i : ℕ) (st : Stack) (g : Result Reassembler Error) → Flowing st.flows p (land B i st h p g)
   unfolding land
-  land_flowing h read i st (Shut err) = stay refl refl
-  land_flowing h read i st (Pass s) =
+  land_flowing h read i st (Err err) = stay refl refl
+  land_flowing h read i st (Ok s) =
       settled_flowing h read i (ticked st) (enter B (next st.head.now) (next_issue st.head.issue) s h p)
 
-  at_flowing : (i : ℕ) (st : Stack) (r : HeaderRead) → header_of p ≡ r → Flowing st.flows p (receive_at B i st p r)
+  at_flowing : (i : ℕ) (st : Stack) (r : Option Header) → header_of p ≡ r → Flowing st.flows p (receive_at B i st p r)
   unfolding receive_at
-  at_flowing i st Bad read = stay (pick_cases (λ (x : Stack). x.flows ≡ st.flows) (λ _. refl) (λ _. refl)) refl
-  at_flowing i st (Good h) read =
-      subst (λ (l : List Flow). Flowing l p (receive_at B i st p (Good h))) (pick_cases (λ (x : Stack). x.flows ≡ st.flows) (λ _. refl) (λ _. refl))
+  at_flowing i st None read = stay (pick_cases (λ (x : Stack). x.flows ≡ st.flows) (λ _. refl) (λ _. refl)) refl
+  at_flowing i st (Some h) read =
+      subst (λ (l : List Flow). Flowing l p (receive_at B i st p (Some h))) (pick_cases (λ (x : Stack). x.flows ≡ st.flows) (λ _. refl) (λ _. refl))
       (land_flowing h read i (counted_opening (is_empty (slot_at i st)) st) (gate_of i st h))
 
   receive_flowing : (st : Stack) (room : ℕ) → Flowing st.flows p (receive_of B st room p)
@@ -115,20 +102,20 @@ module _ (B : ℕ) (p : List ℕ) where
 -- ---- a send
 
 module _ (q : Send) where
-  as_flows : (c : UnderTag) (st : Stack) → (send_as q c st).stack.flows ≡ st.flows
+  as_flows : (c : Result Tag Error) (st : Stack) → (send_as q c st).stack.flows ≡ st.flows
   unfolding send_as
-  as_flows (Under tag) st = refl
-  as_flows (Untagged err) st = refl
+  as_flows (Ok tag) st = refl
+  as_flows (Err err) st = refl
 
-  owned_unique : (wish : Wish) (st : Stack) → Unique st.flows → Unique (owned_tag q.dest wish q.expires q.cookie st).stack.flows
+  owned_unique : (wish : Option TagValue) (st : Stack) → Unique st.flows → Unique (owned_tag q.dest wish q.expires q.cookie st).stack.flows
   unfolding owned_tag
   owned_unique wish st u = set_flow_unique q.dest q.expires q.cookie (table_of st) wish u
 
-  tag_unique : (tag : SendTag) (st : Stack) → Unique st.flows → Unique (tag_for q.dest tag q.expires q.cookie st).stack.flows
+  tag_unique : (tag : Option Tag) (st : Stack) → Unique st.flows → Unique (tag_for q.dest tag q.expires q.cookie st).stack.flows
   unfolding tag_for
-  tag_unique Fresh st u = owned_unique AnyTag st u
-  tag_unique (Owned tag) st u = owned_unique (Fixed tag) st u
-  tag_unique (Unowned tag) st u = u
+  tag_unique None st u = owned_unique None st u
+  tag_unique (Some (Owned tag)) st u = owned_unique (Some tag) st u
+  tag_unique (Some (Unowned tag)) st u = u
 
   tagged_unique : (st : Stack) → Unique st.flows → Unique (send_tagged q (tag_for q.dest q.tag q.expires q.cookie st)).stack.flows
   tagged_unique st u =
@@ -171,9 +158,9 @@ unfolding by_source_of
 source_flows source tag st =
     pick_cases (λ (r : Lookup). r.stack.flows ≡ st.flows) (λ _. refl) (λ _. take_flows (earliest (kept_under source (is_owner tag) (tag_of tag)) st.slots) st)
 
-eid_flows : (r : EidRead) (st : Stack) → (eid_set r st).stack.flows ≡ st.flows
-eid_flows (Normal own) st = refl
-eid_flows (NotNormal err) st = refl
+eid_flows : (r : Result Eid Error) (st : Stack) → (eid_set r st).stack.flows ≡ st.flows
+eid_flows (Ok own) st = refl
+eid_flows (Err err) st = refl
 
 unique_step : (B : ℕ) (c : Call) (w : World) → Unique w.stack.flows → Unique (step B c w).stack.flows
 unfolding step
@@ -239,12 +226,12 @@ flows_single B z own mtu clock pool calls peer tag =
 
 -- ---- a flow that was removed is gone
 
-abbrev well : answers.Done → Bool
-well Well = true
-well (Unwell err) = false
+abbrev well : Result (Unit {0}) Error → Bool
+well (Ok tt) = true
+well (Err err) = false
 
 -- after a cancel that succeeds no flow stands for that peer and tag
-pub cancelled_gone : (peer : Eid) (tag : TagValue) (st : Stack) → Unique st.flows → (cancel_of peer tag st).said ≡ Well
+pub cancelled_gone : (peer : Eid) (tag : TagValue) (st : Stack) → Unique st.flows → (cancel_of peer tag st).said ≡ Ok tt
     → standing peer tag (cancel_of peer tag st).stack.flows ≡ false
 unfolding cancel_of
 cancelled_gone peer tag st u =
@@ -252,21 +239,21 @@ cancelled_gone peer tag st u =
     (λ _. pick_cases P (λ _ e. absurd (no_true (ap well e))) (λ _ e. removed_gone peer tag st.flows u))
   where
     P : handles.Handled → Type 0
-    P o = o.said ≡ Well → standing peer tag o.stack.flows ≡ false
+    P o = o.said ≡ Ok tt → standing peer tag o.stack.flows ≡ false
 
-flowing_gone : (l : List Flow) (p : List ℕ) (r : Receipt) → Unique l → (g : Header) → header_of p ≡ Good g → g.key.owner ≡ false → hands r.said ≡ true → Flowing l p r
+flowing_gone : (l : List Flow) (p : List ℕ) (r : Receipt) → Unique l → (g : Header) → header_of p ≡ Some g → g.key.owner ≡ false → hands r.said ≡ true → Flowing l p r
     → standing g.key.source g.key.tag r.stack.flows ≡ false
 flowing_gone l p r u g read o y (stay e n) = absurd (no_both y n)
 flowing_gone l p r u g read o y (close h again e) =
-    let same : Good g ≡ Good h = sym read ∙ again in
+    let same : Some g ≡ Some h = sym read ∙ again in
     let k : g ≡ h = cc in
     let e' : r.stack.flows ≡ pick g.key.owner l (removed g.key.source g.key.tag l) =
     e ∙ ap (λ (x : Header). pick x.key.owner l (removed x.key.source x.key.tag l)) (sym k) in
     ap (standing g.key.source g.key.tag) (e' ∙ pick_false g.key.owner _ _ o) ∙ removed_gone g.key.source g.key.tag l u
 
 -- after a receive, lent whatever pool, that hands out a reply (TO = 0) no flow stands for its source and tag
-pub reply_gone : (B : ℕ) (st : Stack) (room : ℕ) (p : List ℕ) (h : ReceiveHandle) (g : Header) → Unique st.flows → header_of p ≡ Good g → g.key.owner ≡ false
-    → (receive_of B st room p).said ≡ Told h → standing g.key.source g.key.tag (receive_of B st room p).stack.flows ≡ false
+pub reply_gone : (B : ℕ) (st : Stack) (room : ℕ) (p : List ℕ) (h : ReceiveHandle) (g : Header) → Unique st.flows → header_of p ≡ Some g → g.key.owner ≡ false
+    → (receive_of B st room p).said ≡ Ok (Some h) → standing g.key.source g.key.tag (receive_of B st room p).stack.flows ≡ false
 reply_gone B st room p h g u read o e = flowing_gone st.flows p (receive_of B st room p) u g read o (ap hands e) (receive_flowing B p st room)
 
 -- both, after any calls from a new stack, by what is answered, with no further premise
@@ -274,9 +261,9 @@ module _ (B : ℕ) (z : Sizes) (own : Eid) (mtu clock : ℕ) (pool : List ℕ) (
   abbrev reached : World
   reached = steps B calls (record { stack = fresh_stack z own mtu clock; pool = pool })
 
-  as_done : (d : answers.Done) → done_as d ≡ gives [] → d ≡ Well
-  as_done Well e = refl
-  as_done (Unwell err) e = absurd (error_some err (ap answer_no e))
+  as_done : (d : Result (Unit {0}) Error) → done_as d ≡ gives [] → d ≡ Ok tt
+  as_done (Ok tt) e = refl
+  as_done (Err err) e = absurd (error_some err (ap answer_no e))
 
   pub cancel_clears : (peer : Eid) (tag : TagValue) → performed B (cancel_flow peer tag) reached ≡ gives []
       → standing peer tag (step B (cancel_flow peer tag) reached).stack.flows ≡ false
@@ -284,7 +271,7 @@ module _ (B : ℕ) (z : Sizes) (own : Eid) (mtu clock : ℕ) (pool : List ℕ) (
   cancel_clears peer tag e =
       cancelled_gone peer tag reached.stack (fresh_unique B z own mtu clock pool calls) (as_done (cancel_of peer tag reached.stack).said e)
 
-  pub reply_clears : (p : List ℕ) (h : ReceiveHandle) (g : Header) → header_of p ≡ Good g → g.key.owner ≡ false → performed B (receive p) reached ≡ gives (handle_words h)
+  pub reply_clears : (p : List ℕ) (h : ReceiveHandle) (g : Header) → header_of p ≡ Some g → g.key.owner ≡ false → performed B (receive p) reached ≡ gives (handle_words h)
       → standing g.key.source g.key.tag (step B (receive p) reached).stack.flows ≡ false
   unfolding step
   reply_clears p h g read o e =

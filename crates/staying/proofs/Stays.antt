@@ -8,10 +8,10 @@ use mathlib.Core.List.{List, [], ◌∷◌}
 use lib.ListN.{length, get_or, replicate}
 use lib.Seq.{get_or-set_same}
 use borrow.Author.Tests.{le-ltb, ltb-false, not-true}
+use Rattle.std.specs.Prelude.{Err, Ok, Option, Result, Some}
 use Rattle.octets.specs.Pick.{pick, pick_true, pick_cases}
 use Rattle.mctp.specs.declared.Eid.{Eid}
 use Rattle.mctp.specs.Answer.{gives}
-use Rattle.mctp.specs.declared.Cookie.{Cookie}
 use Rattle.slot.specs.declared.State.TheVariants.{HandleOut}
 use Rattle.slot.specs.declared.Reassembler.{Reassembler}
 use Rattle.slot.specs.Slot.{blank_slot, out_state, handle_taken, handle_is, with_slot_cookie}
@@ -21,12 +21,9 @@ use Rattle.state.specs.declared.Sizes.{Sizes}
 use Rattle.state.specs.Stack.{Stack, Kept, stack_of, slot_at}
 use Rattle.state.proofs.StackLaws.{slot_ok}
 use Rattle.slot.specs.declared.ReceiveHandle.{ReceiveHandle}
-use Rattle.receiving.specs.declared.Received.TheVariants.{Message as Told}
 use Rattle.slot.specs.Handle.{handle_words}
 use Rattle.receiving.specs.Receive.{Receipt}
 use Rattle.handles.specs.declared.Message.{Message as Facts}
-use Rattle.handles.specs.declared.Fetched.{Fetched as Said}
-use Rattle.handles.specs.declared.Fetched.TheVariants.{Message as Give, Refused as Unfetched}
 use Rattle.handles.specs.Handles as handles
 use Rattle.handles.specs.Handles.{is_good, handled, set_cookie_of, message_in, fetch_of}
 use Rattle.estack.specs.Basics.{fresh_stack}
@@ -45,6 +42,8 @@ use Rattle.promises.proofs.Stale.{good_is}
 use Rattle.staying.specs.Staying.{names, spares, Fetches, with_cookie, Short}
 use Rattle.staying.proofs.Fates.{done_in, Fate, stays, goes, found, named, filled, fates}
 use Rattle.staying.proofs.Tail.{Whole, whole_stays, room_stays}
+use Rattle.mctp.specs.declared.AppCookie.{AppCookie}
+use Rattle.mctp.specs.declared.Error.{Error}
 
 -- ---- a handle that is out
 
@@ -123,24 +122,24 @@ pub record Fetched (B : ℕ) (h : ReceiveHandle) (st : Stack) (room : ℕ) (f : 
   pub long : B * length st.slots ≤ room
   pub facts : f ≡ message_in B h.index (slot_at h.index st)
 
-abbrev is_given : Said → Bool
-is_given (Give f) = true
-is_given (Unfetched err) = false
+abbrev is_given : Result Facts Error → Bool
+is_given (Ok f) = true
+is_given (Err err) = false
 
-fetch_of_lem : (B : ℕ) (h : ReceiveHandle) (st : Stack) (room : ℕ) (f : Facts) → fetch_of B h st room ≡ Give f → Fetched B h st room f
+fetch_of_lem : (B : ℕ) (h : ReceiveHandle) (st : Stack) (room : ℕ) (f : Facts) → fetch_of B h st room ≡ Ok f → Fetched B h st room f
 unfolding fetch_of
 fetch_of_lem B h st room f =
     pick_cases P (λ _ e. absurd (no_true (ap is_given e)))
     (λ n. pick_cases P (λ g e. record { good = g; long = ltb-false room (B * length st.slots) n; facts = sym (inside e) }) (λ _ e. absurd (no_true (ap is_given e))))
   where
-    P : Said → Type 0
-    P x = x ≡ Give f → Fetched B h st room f
+    P : Result Facts Error → Type 0
+    P x = x ≡ Ok f → Fetched B h st room f
 
-    inside : {a b : Facts} → Give a ≡ Give b → a ≡ b
+    inside : {a b : Facts} → ◌≡◌ {A = Result Facts Error} (Ok a) (Ok b) → a ≡ b
     inside e = cc
 
 pub fetch_good : (B : ℕ) (h : ReceiveHandle) (st : Stack) (room : ℕ) → is_good h st ≡ true → B * length st.slots ≤ room
-    → fetch_of B h st room ≡ Give (message_in B h.index (slot_at h.index st))
+    → fetch_of B h st room ≡ Ok (message_in B h.index (slot_at h.index st))
 unfolding fetch_of pick
 fetch_good B h st room g r = rw (le-ltb room (B * length st.slots) r, g)
 
@@ -228,7 +227,7 @@ kept_stays z b ok pool h calls g all =
 
 -- ---- a message that is handed out
 
-handed_short : (B : ℕ) (st : Stack) (p : List ℕ) (h : ReceiveHandle) (r : Receipt) → Outcome B st p r → r.said ≡ Told h → (slot_at h.index r.stack).len ≤ B
+handed_short : (B : ℕ) (st : Stack) (p : List ℕ) (h : ReceiveHandle) (r : Receipt) → Outcome B st p r → r.said ≡ Ok (Some h) → (slot_at h.index r.stack).len ≤ B
 handed_short B st p h r (quiet s b n) e = absurd (no_both (takes r.said) (rw e) n)
 handed_short B st p h r (dropped i g read src s b n) e = absurd (no_both (takes r.said) (rw e) n)
 handed_short B st p h r (took i g t) e =
@@ -263,7 +262,7 @@ handled_slot f h st g =
     (passes_in (handle_is h.issue) blank_slot refl st.slots h.index (sym (good_is h st) ∙ g))
 
 -- setting a cookie under a good handle changes the message's cookie alone, and the handle stays good
-pub cookie_set : (B : ℕ) (h : ReceiveHandle) (cookie : Cookie) (w : World) → is_good h w.stack ≡ true
+pub cookie_set : (B : ℕ) (h : ReceiveHandle) (cookie : Option AppCookie) (w : World) → is_good h w.stack ≡ true
     → (is_good h (step B (set_cookie h cookie) w).stack ≡ true)
     × (message_at B h.index (step B (set_cookie h cookie) w) ≡ with_cookie cookie (message_at B h.index w))
 unfolding step
@@ -274,7 +273,7 @@ cookie_set B h cookie w g =
     )
 
 -- and so it is afterwards, whatever calls come but a finish, a return or another set cookie under that handle
-pub cookie_stays : (B : ℕ) (h : ReceiveHandle) (cookie : Cookie) (calls : List Call) (w : World)
+pub cookie_stays : (B : ℕ) (h : ReceiveHandle) (cookie : Option AppCookie) (calls : List Call) (w : World)
     → is_good h w.stack ≡ true → (slot_at h.index w.stack).len ≤ B → all_of (spares h) calls ≡ true
     → let w' = steps B calls (step B (set_cookie h cookie) w) in
     (is_good h w'.stack ≡ true) × (message_at B h.index w' ≡ with_cookie cookie (message_at B h.index w))
@@ -286,7 +285,7 @@ cookie_stays B h cookie calls w g l ok =
     (rest.0, rest.1 ∙ one.1)
 
 -- the body that a fetch tells of lies in the pool that it was lent
-pub fetch_inside : (B : ℕ) (h : ReceiveHandle) (st : Stack) (room : ℕ) (f : Facts) → fetch_of B h st room ≡ Give f → (slot_at h.index st).len ≤ B
+pub fetch_inside : (B : ℕ) (h : ReceiveHandle) (st : Stack) (room : ℕ) (f : Facts) → fetch_of B h st room ≡ Ok f → (slot_at h.index st).len ≤ B
     → f.at + f.len ≤ room
 fetch_inside B h st room f e l =
     let d = fetch_of_lem B h st room f e in

@@ -1,15 +1,13 @@
 -- Which calls name a handle: finish, return and set cookie under that very index and number. No other call takes a message whose handle is out.
 -- Which calls end a message with no handle out. How many flows a peer and tag have. And what a packet that is taken writes to the pool.
 -- Leans on `promises` for calls and worlds.
-use Rattle.std.specs.Prelude.{ℕ, suc, ◌+◌, ◌*◌, ◌≤◌, ◌≡◌, Bool, true, false, not, ◌&&◌, List, [], ◌∷◌, eqb, ltb, length, take, drop}
+use Rattle.std.specs.Prelude.{ℕ, suc, ◌+◌, ◌*◌, ◌≤◌, ◌≡◌, Bool, true, false, not, ◌&&◌, List, [], ◌∷◌, eqb, ltb, length, take, drop, None, Ok, Option, Some}
 use Rattle.config.specs.Config.{slot_time}
 use Rattle.octets.specs.Pick.{pick}
 use Rattle.octets.specs.Bytes.{part, over}
 use Rattle.mctp.specs.declared.Eid.{Eid}
 use Rattle.mctp.specs.declared.TagValue.{TagValue}
-use Rattle.mctp.specs.declared.Cookie.{Cookie}
 use Rattle.mctp.specs.declared.Header.{Header}
-use Rattle.mctp.specs.declared.HeaderRead.TheVariants.{Good}
 use Rattle.mctp.specs.Terms.{tag_of, is_owner}
 use Rattle.mctp.specs.Header.{header_of}
 use Rattle.stamp.specs.Stamp.{is_expired}
@@ -22,13 +20,11 @@ use Rattle.state.specs.Stack.{Stack, slot_at}
 use Rattle.slot_walks.specs.SlotWalks.{blocked}
 use Rattle.slot.specs.declared.ReceiveHandle.{ReceiveHandle}
 use Rattle.handles.specs.declared.Message.{Message as Facts}
-use Rattle.handles.specs.declared.Fetched.TheVariants.{Message as Fetch}
-use Rattle.handles.specs.declared.Deferred.{Deferred}
-use Rattle.handles.specs.declared.Deferred.TheVariants.{Found, Nothing}
 use Rattle.handles.specs.Handles.{fetch_of, by_source_of, by_cookie_of}
 use Rattle.promises.specs.Calls.{Call, receive, elsewhere, update, start_send, cancel_flow, get_deferred, get_deferred_by_cookie, fetch_message, finished_receive, return_handle, set_cookie, set_eid, eid, is_local_dest, free_tags, World, step, receipt}
 use Rattle.promises.specs.Delivery.{Message, read_from}
 use Rattle.promises.specs.History.{takes}
+use Rattle.mctp.specs.declared.AppCookie.{AppCookie}
 
 -- ---- what takes a message whose handle is out
 
@@ -61,27 +57,27 @@ spares h c = not (names h c)
 -- ---- what ends a message with no handle out
 
 -- what a lookup tells; any other call tells nothing of this kind
-abbrev pub tells : Call → Stack → Deferred
-tells (receive p) st = Nothing
-tells (elsewhere n p) st = Nothing
-tells (update t) st = Nothing
-tells (start_send q) st = Nothing
-tells (cancel_flow peer tag) st = Nothing
+abbrev pub tells : Call → Stack → Option ReceiveHandle
+tells (receive p) st = None
+tells (elsewhere n p) st = None
+tells (update t) st = None
+tells (start_send q) st = None
+tells (cancel_flow peer tag) st = None
 tells (get_deferred source tag) st = (by_source_of source tag st).said
 tells (get_deferred_by_cookie cookies) st = (by_cookie_of cookies st).said
-tells (fetch_message k n) st = Nothing
-tells (finished_receive k) st = Nothing
-tells (return_handle k) st = Nothing
-tells (set_cookie k cookie) st = Nothing
-tells (set_eid n) st = Nothing
-tells eid st = Nothing
-tells (is_local_dest p) st = Nothing
-tells (free_tags peer) st = Nothing
+tells (fetch_message k n) st = None
+tells (finished_receive k) st = None
+tells (return_handle k) st = None
+tells (set_cookie k cookie) st = None
+tells (set_eid n) st = None
+tells eid st = None
+tells (is_local_dest p) st = None
+tells (free_tags peer) st = None
 
 -- whether a lookup has told a handle of slot i
-abbrev pub tells_of : ℕ → Deferred → Bool
-tells_of i (Found h) = eqb h.index i
-tells_of i Nothing = false
+abbrev pub tells_of : ℕ → Option ReceiveHandle → Bool
+tells_of i (Some h) = eqb h.index i
+tells_of i None = false
 
 -- whether an update at the clock t checks the times: t is not below the last clock, and the planned check is due
 abbrev pub checks_at : ℕ → Stack → Bool
@@ -143,11 +139,11 @@ passes s c = not (seeks s c)
 -- a fetch under the handle h, lent the watched pool, gives m
 pub record Fetches (B : ℕ) (h : ReceiveHandle) (m : Message) (w : World) : Type 0 where
   pub facts : Facts
-  pub fetched : fetch_of B h w.stack (length w.pool) ≡ Fetch facts
+  pub fetched : fetch_of B h w.stack (length w.pool) ≡ Ok facts
   pub message : read_from w.pool facts ≡ m
 
 -- the same message but for its cookie
-abbrev pub with_cookie : Cookie → Message → Message
+abbrev pub with_cookie : Option AppCookie → Message → Message
 with_cookie cookie m = record { key = m.key; typ = m.typ; ic = m.ic; body = m.body; cookie = cookie }
 
 -- no slot's stamp is later than the clock; this holds in a new stack, and every call keeps it (`timely_stays`)
@@ -179,7 +175,7 @@ length_before h s = pick h.som 0 s.len
 -- where the slot's body ended, within the slot's part, and every other byte is as it was
 pub record Appends (B j : ℕ) (p : List ℕ) (w : World) : Type 0 where
   pub header : Header
-  pub read : header_of p ≡ Good header
+  pub read : header_of p ≡ Some header
   pub taken : takes (receipt B p w).said ≡ true
   pub unclosed : (is_done (slot_at j w.stack) ≡ false) × (handle_taken (slot_at j w.stack) ≡ false)
   pub fits : length_before header (slot_at j w.stack) + length (body_in p) ≤ B

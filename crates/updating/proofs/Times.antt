@@ -6,6 +6,7 @@ use mathlib.Core.Logic.{◌⊎◌, inl, inr}
 use mathlib.Core.Bool.{Bool, false}
 use lib.Dec.{ltb}
 use borrow.Author.Tests.{ltb-true, ltb-false}
+use Rattle.std.specs.Prelude.{Err, Ok, Result}
 use Rattle.config.specs.Config.{interval}
 use Rattle.octets.specs.Pick.{pick_cases}
 use Rattle.stamp.specs.declared.Timeout.TheVariants.{Left}
@@ -16,9 +17,9 @@ use Rattle.slot.specs.Slot.{blank_slot, slot_timeout}
 use Rattle.state.specs.Head.{HeadOk}
 use Rattle.state.specs.Stack.{Stack, slot_at, flow_at}
 use Rattle.state.specs.Times.{slot_times}
-use Rattle.updating.specs.declared.Updated.{Updated}
-use Rattle.updating.specs.declared.Updated.TheVariants.{Next, Refused}
 use Rattle.updating.specs.Update.{Update, least_of, checked, update_of}
+use Rattle.mctp.specs.declared.Error.{Error}
+use Rattle.updating.specs.declared.Next.{Next}
 
 -- n is the least of 100 and every remaining time at that clock: at most each of them, and one of them
 pub record Remaining (n now : ℕ) (st : Stack) : Type 0 where
@@ -53,9 +54,9 @@ abbrev pub ToldTime : ℕ → Stack → ℕ → Type 0
 ToldTime now st n = ((now < st.head.next_timeout) × (n ≡ st.head.next_timeout - now)) ⊎ Remaining n now st
 
 -- of what an update says, if it does not refuse
-abbrev ToldBy : ℕ → Stack → Updated → Type 0
-ToldBy now st (Next n any) = ToldTime now st n × (HeadOk st.head → n ≤ interval)
-ToldBy now st (Refused err) = Unit
+abbrev ToldBy : ℕ → Stack → Result Next Error → Type 0
+ToldBy now st (Ok next) = ToldTime now st next.millis × (HeadOk st.head → next.millis ≤ interval)
+ToldBy now st (Err err) = Unit
 
 told_of : (now : ℕ) (st : Stack) → ToldBy now st (update_of now st).said
 unfolding update_of checked
@@ -72,11 +73,11 @@ pub record Number (now : ℕ) (st : Stack) (n : ℕ) : Type 0 where
   pub is : ToldTime now st n
 
 module _ (now : ℕ) (st : Stack) (n : ℕ) (any : Bool) where
-  told : (update_of now st).said ≡ Next n any → ToldBy now st (Next n any)
+  told : (update_of now st).said ≡ Ok (record { millis = n; expired = any }) → ToldBy now st (Ok (record { millis = n; expired = any }))
   told e = rw e at (told_of now st)
 
-  pub told_time : (update_of now st).said ≡ Next n any → ToldTime now st n
+  pub told_time : (update_of now st).said ≡ Ok (record { millis = n; expired = any }) → ToldTime now st n
   told_time e = (told e).0
 
-  pub updates_number : HeadOk st.head → (update_of now st).said ≡ Next n any → Number now st n
+  pub updates_number : HeadOk st.head → (update_of now st).said ≡ Ok (record { millis = n; expired = any }) → Number now st n
   updates_number ok e = record { soon = (told e).1 ok; is = told_time e }

@@ -5,6 +5,7 @@ use mathlib.Core.Path.{◌≡◌, refl, ap, subst, ◌∙◌}
 use mathlib.Core.Bool.{false}
 use mathlib.Core.List.{List, map}
 use borrow.Author.Tests.{ltb-false}
+use Rattle.std.specs.Prelude.{Ok}
 use Rattle.config.specs.Config.{interval}
 use Rattle.octets.specs.Pick.{pick_cases}
 use Rattle.stamp.specs.declared.EventStamp.{EventStamp}
@@ -19,7 +20,6 @@ use Rattle.state.proofs.StackLaws.{and_then}
 use Rattle.stamp.specs.declared.Check.{Check}
 use Rattle.stamp.specs.Checks.{check_of}
 use Rattle.state.specs.Times.{slot_times, flow_times}
-use Rattle.updating.specs.declared.Updated.TheVariants.{Next}
 use Rattle.updating.specs.Update.{least_of, expires, planned_at, checked}
 use Rattle.state.proofs.Steps.{Met}
 use Rattle.updating.proofs.Times.{remaining}
@@ -62,10 +62,10 @@ module _ (z : Sizes) (b x y : List ℕ) (clock : ℕ) (s c : Check) (p : Met z b
       omega arith
 
   pub checks : (n : ℕ) (h : Head) (w : List ℕ) → n ≡ planned_at clock c.least → h ≡ (stack_of z y).head → Becomes z y w (with_head (with_planned n (with_now h.now h)) (stack_of z y))
-      → Met z b (checked clock st).said (checked clock st).stack (Next c.least c.expired) w
+      → Met z b (checked clock st).said (checked clock st).stack (Ok (record { millis = c.least; expired = c.expired })) w
   unfolding checked
   checks n h w e f r =
       let g = subst (λ (k : Head). Becomes z y w (with_head (with_planned n k) (stack_of z y))) f r in
       let a = and_then z (λ (t : Stack). with_head (with_planned n t.head) t) b y w faded fades g in
       let m = e ∙ ap (λ (d : Check). planned_at clock d.least) found in
-      (ap (λ (d : Check). Next d.least d.expired) found, subst (λ (i : ℕ). Becomes z b w (with_head (with_planned i st.head) faded)) m a)
+      (ap (λ (d : Check). Ok (record { millis = d.least; expired = d.expired })) found, subst (λ (i : ℕ). Becomes z b w (with_head (with_planned i st.head) faded)) m a)

@@ -1,7 +1,7 @@
 -- docs/RULES.md 69 to 71, `update`. A clock below the last is InvalidInput; otherwise the clock is taken. Below the planned check the answer is the gap to it
 -- and no. Otherwise slots and flows expire, and the next check is planned after the least of 100 and every remaining time. The planned check stops at 2^64 - 1.
 -- Leans on `state` for the remaining times, on `stamp` for what a check finds, on `flows` and `slot` for what expires.
-use Rattle.std.specs.Prelude.{ℕ, ◌+◌, ◌-◌, min, Bool, false, [], ◌∷◌, map, ltb}
+use Rattle.std.specs.Prelude.{ℕ, ◌+◌, ◌-◌, min, Bool, false, [], ◌∷◌, map, ltb, Err, Ok, Result}
 use Rattle.config.specs.Config.{interval}
 use Rattle.octets.specs.Pick.{pick}
 use Rattle.mctp.specs.declared.Error.TheVariants.{InvalidInput}
@@ -14,17 +14,17 @@ use Rattle.state.specs.Head.{with_planned}
 use Rattle.state.specs.Stack.{Stack, with_stamp}
 use Rattle.stamp.specs.Checks.{least_left, any_expired}
 use Rattle.state.specs.Times.{slot_times, flow_times}
-use Rattle.updating.specs.declared.Updated.{Updated}
-use Rattle.updating.specs.declared.Updated.TheVariants.{Next, Refused}
+use Rattle.mctp.specs.declared.Error.{Error}
+use Rattle.updating.specs.declared.Next.{Next}
 
 pub record Update : Type 0 where
   pub stack : Stack
-  pub said : Updated
+  pub said : Result Next Error
 
 -- 0, the milliseconds until the next check, and whether something expired
-abbrev pub updated_as : Updated → Answer
-updated_as (Next millis expired) = gives (millis ∷ flag_word expired ∷ [])
-updated_as (Refused err) = refuses (error_no err) []
+abbrev pub updated_as : Result Next Error → Answer
+updated_as (Ok next) = gives (next.millis ∷ flag_word next.expired ∷ [])
+updated_as (Err err) = refuses (error_no err) []
 
 -- the least of the interval and every remaining time; what has expired has none, and neither has what no time runs for, such as a slot whose handle is out
 abbrev pub least_of : ℕ → Stack → ℕ
@@ -46,12 +46,12 @@ checked now st = record {
     flows = map (faded_flow now) st.flows;
     slots = map (faded_slot now) st.slots;
   };
-  said = Next (least_of now st) (expires now st);
+  said = Ok (record { millis = least_of now st; expired = expires now st });
 }
 
 unfoldable pub update_of : ℕ → Stack → Update
 update_of now st =
-    pick (ltb now st.head.now.clock) (record { stack = st; said = Refused InvalidInput })
+    pick (ltb now st.head.now.clock) (record { stack = st; said = Err InvalidInput })
     (pick (ltb now st.head.next_timeout)
-    (record { stack = with_stamp (clocked now st.head.now) st; said = Next (st.head.next_timeout - now) false })
+    (record { stack = with_stamp (clocked now st.head.now) st; said = Ok (record { millis = st.head.next_timeout - now; expired = false }) })
     (checked now (with_stamp (clocked now st.head.now) st)))

@@ -16,9 +16,9 @@ use state::{Head, Sizes};
 
 // How many milliseconds may pass until the next update, and whether something expired.
 #[derive(Clone, Copy)]
-pub enum Updated {
-    Next { millis: u64, expired: bool },
-    Refused(Error),
+pub struct Next {
+    pub millis: u64,
+    pub expired: bool,
 }
 
 // When the next check is planned; it stops at 2^64 - 1.
@@ -39,7 +39,7 @@ fn put_clock(state: &mut [u8], sizes: Sizes, h: Head, stamp: EventStamp, next_ti
 }
 
 // The check itself: slots and flows expire, and the next check is planned.
-fn check(state: &mut [u8], sizes: Sizes, clock: u64) -> Updated
+fn check(state: &mut [u8], sizes: Sizes, clock: u64) -> Result<Next, Error>
     requires { Kept sizes state.old × (clock ≡ (stack_of sizes state.old).head.now.clock) }
     ensures { (result ≡ (checked clock (stack_of sizes state.old)).said) × Becomes sizes state.old state.new (checked clock (stack_of sizes state.old)).stack }
 {
@@ -51,30 +51,30 @@ fn check(state: &mut [u8], sizes: Sizes, clock: u64) -> Updated
     let c = flow_walks::expire_flows(state, sizes, clock, slots);
     let h = state::head_at(state, sizes);
     put_clock(state, sizes, h, h.now, plan_check(clock, c.least));
-    Updated::Next {
+    Ok(Next {
         millis: c.least as u64,
         expired: c.expired,
-    }
+    })
 }
 
 // Takes the clock. Where the planned check is reached, slots and flows expire.
-pub fn update(state: &mut [u8], sizes: Sizes, clock: u64) -> Updated
+pub fn update(state: &mut [u8], sizes: Sizes, clock: u64) -> Result<Next, Error>
     requires { Kept sizes state.old }
     ensures { (result ≡ (update_of clock (stack_of sizes state.old)).said) × Becomes sizes state.old state.new (update_of clock (stack_of sizes state.old)).stack }
 {
     let h = state::head_at(state, sizes);
     if clock < h.now.clock {
-        return Updated::Refused(Error::InvalidInput);
+        return Err(Error::InvalidInput);
     }
     let last = h.now;
     let stamp = last.update_clock(clock);
     let planned = h.next_timeout;
     put_clock(state, sizes, h, stamp, planned);
     if clock < planned {
-        return Updated::Next {
+        return Ok(Next {
             millis: planned - clock,
             expired: false,
-        };
+        });
     }
     check(state, sizes, clock)
 }

@@ -5,11 +5,10 @@ use native.Mathlib.Omega.{arith}
 use lib.ListN.{replicate}
 use borrow.Author.Tests.{lt-ltb, le-ltb}
 use borrow.Author.Rules.{rules}
+use Rattle.std.specs.Prelude.{Err, Result}
 use Rattle.octets.specs.Bytes.{lay}
 use Rattle.octets.specs.Pick.{pick, pick_cases}
 use Rattle.mctp.specs.declared.Error.TheVariants.{BadArgument}
-use Rattle.handles.specs.declared.Done.{Done}
-use Rattle.handles.specs.declared.Done.TheVariants.{Refused}
 use Rattle.octets.proofs.Tests.{picks}
 use Rattle.state.proofs.Fresh as fresh
 use Rattle.state.proofs.StackLaws.{and_then}
@@ -17,10 +16,11 @@ use Rattle.state.specs.Stack.{Stack, with_head}
 use Rattle.state.specs.Layout.{SizesOk, size}
 use Rattle.estack.specs.Basics.{new_says, fresh_head}
 use Rattle.estack.proofs.new.Goals as goal
+use Rattle.mctp.specs.declared.Error.{Error}
 
 -- what BadArgument refuses it refuses, whether or not an earlier test refuses it too
-same-refusal : (b : Bool) (r : Done) → Refused BadArgument ≡ r → Refused BadArgument ≡ pick b (Refused BadArgument) r
-same-refusal b r e = pick_cases (λ (x : Done). Refused BadArgument ≡ x) (λ _. refl) (λ _. e)
+same-refusal : (b : Bool) (r : Result (Unit {0}) Error) → Err BadArgument ≡ r → Err BadArgument ≡ pick b (Err BadArgument) r
+same-refusal b r e = pick_cases (λ (x : Result (Unit {0}) Error). Err BadArgument ≡ x) (λ _. refl) (λ _. e)
 
 pub returns-then-mtu-lt-MIN_MTU : goal.returns-then-mtu-lt-MIN_MTU
 unfolding new_says

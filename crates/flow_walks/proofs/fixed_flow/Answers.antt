@@ -1,8 +1,8 @@
 -- `fixed_flow` meets its contract: a flow that stands is used again or refused by its expiry, and one that is absent is inserted.
+use Rattle.std.specs.Prelude.{Err, Ok}
 use Rattle.state.specs.Stack.{stack_of}
 use Rattle.mctp.specs.declared.Error.TheVariants.{BadArgument}
 use Rattle.octets.specs.Pick.{pick_true, pick_false}
-use Rattle.flows.specs.declared.Granted.TheVariants.{Tag, Refused}
 use Rattle.flows.specs.Table.{flow_place}
 use Rattle.state.proofs.StackLaws.{flows_length}
 use Rattle.flow_walks.specs.FlowWalks.{table_of}
@@ -15,11 +15,11 @@ use Rattle.flow_walks.proofs.fixed_flow.Goals as goal
 
 pub returns-then-lasting : goal.returns-then-lasting
 returns-then-lasting c =
-    fixed_found c.args.sizes c.args.state.now c.requires.0 c.args.peer c.args.tag c.args.expires c.args.cookie c.find_flow-i.result c.flow_at-f.result c.is_lasting-lasting.result _ c.find_flow-i.ensures.0 c.if-i-lt-FLOWS.true c.flow_at-f.ensures.0 c.is_lasting-lasting.ensures (sym (pick_true _ (Tag c.args.tag) (Refused BadArgument) c.if-lasting.true))
+    fixed_found c.args.sizes c.args.state.now c.requires.0 c.args.peer c.args.tag c.args.expires c.args.cookie c.find_flow-i.result c.flow_at-f.result c.is_lasting-lasting.result _ c.find_flow-i.ensures.0 c.if-i-lt-FLOWS.true c.flow_at-f.ensures.0 c.is_lasting-lasting.ensures (sym (pick_true _ (Ok c.args.tag) (Err BadArgument) c.if-lasting.true))
 
 pub returns-then-i-lt-FLOWS : goal.returns-then-i-lt-FLOWS
 returns-then-i-lt-FLOWS c =
-    fixed_found c.args.sizes c.args.state.now c.requires.0 c.args.peer c.args.tag c.args.expires c.args.cookie c.find_flow-i.result c.flow_at-f.result c.is_lasting-lasting.result _ c.find_flow-i.ensures.0 c.if-i-lt-FLOWS.true c.flow_at-f.ensures.0 c.is_lasting-lasting.ensures (sym (pick_false _ (Tag c.args.tag) (Refused BadArgument) c.if-lasting.false))
+    fixed_found c.args.sizes c.args.state.now c.requires.0 c.args.peer c.args.tag c.args.expires c.args.cookie c.find_flow-i.result c.flow_at-f.result c.is_lasting-lasting.result _ c.find_flow-i.ensures.0 c.if-i-lt-FLOWS.true c.flow_at-f.ensures.0 c.is_lasting-lasting.ensures (sym (pick_false _ (Ok c.args.tag) (Err BadArgument) c.if-lasting.false))
 
 pub returns : goal.returns
 returns c =

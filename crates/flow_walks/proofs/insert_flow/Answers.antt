@@ -1,10 +1,10 @@
 -- `insert_flow` meets its contract: the event is counted first, and a new flow goes to the first free place, if there is one.
+use Rattle.std.specs.Prelude.{Err, Ok}
 use Rattle.state.specs.Stack.{stack_of, Stack, with_flow, with_stamp}
 use Rattle.octets.specs.Find.{find}
 use Rattle.stamp.specs.declared.EventStamp.{EventStamp}
 use Rattle.mctp.specs.declared.Error.TheVariants.{TagUnavailable}
 use Rattle.flows.specs.declared.Flow.{Flow}
-use Rattle.flows.specs.declared.Granted.TheVariants.{Tag, Refused}
 use Rattle.flows.specs.Codec.{FlowOk}
 use Rattle.flows.specs.Table.{is_free, new_flow, counted}
 use Rattle.flows.proofs.TableLaws.{new_ok, counted_clock, counted_counter}
@@ -38,7 +38,7 @@ returns-then-i-lt-FLOWS c =
     let made = c.new_flow-f.ensures ∙ ap (λ (x : EventStamp). new_flow c.args.peer c.args.tag c.args.expires c.args.cookie x) c.counted-stamp.ensures.0 in
     let stored = ap (λ (j : ℕ). with_flow j c.new_flow-f.result held) e ∙ ap (λ (x : Flow). with_flow i x held) made in
     let both = and_then c.args.sizes (with_flow c.find_free-i.result c.new_flow-f.result) c.args.state.now c.counted-stamp.new.state c.put_flow.new.state held c.counted-stamp.ensures.1 c.put_flow.ensures in
-    sent_as c.args.sizes c.args.state.now c.put_flow.new.state st (Tag c.args.tag) _ _ (sym (insert_room c.args.peer c.args.tag c.args.expires c.args.cookie (table_of st) h)) (refl, becomes_as c.args.sizes c.args.state.now c.put_flow.new.state stored both)
+    sent_as c.args.sizes c.args.state.now c.put_flow.new.state st (Ok c.args.tag) _ _ (sym (insert_room c.args.peer c.args.tag c.args.expires c.args.cookie (table_of st) h)) (refl, becomes_as c.args.sizes c.args.state.now c.put_flow.new.state stored both)
 
 pub returns : goal.returns
 returns c =
@@ -46,4 +46,4 @@ returns c =
     let i = find is_free st.flows in
     let e = c.find_free-i.ensures.0 ∙ ap (λ (x : Stack). find is_free x.flows) c.counted-stamp.ensures.1.view in
     let h : length st.flows ≤ i = omega (arith, flows_length c.args.sizes c.args.state.now, e, c.if-i-lt-FLOWS.false) in
-    sent_as c.args.sizes c.args.state.now c.counted-stamp.new.state st (Refused TagUnavailable) _ _ (sym (insert_full c.args.peer c.args.tag c.args.expires c.args.cookie (table_of st) h)) (refl, c.counted-stamp.ensures.1)
+    sent_as c.args.sizes c.args.state.now c.counted-stamp.new.state st (Err TagUnavailable) _ _ (sym (insert_full c.args.peer c.args.tag c.args.expires c.args.cookie (table_of st) h)) (refl, c.counted-stamp.ensures.1)

@@ -4,11 +4,11 @@ use native.Mathlib.Omega.{arith}
 use mathlib.Core.Path.{sym, ap, ◌∙◌}
 use lib.ListN.{length}
 use borrow.Author.Tests.{lt-ltb, le-ltb}
+use Rattle.std.specs.Prelude.{Ok}
 use Rattle.octets.specs.Pick.{pick}
 use Rattle.slot.specs.declared.Reassembler.{Reassembler}
 use Rattle.state.proofs.StackLaws.{slots_length}
 use Rattle.handles.specs.Handles.{fetch_of, message_in}
-use Rattle.handles.specs.declared.Fetched.TheVariants.{Message as Fetch}
 use Rattle.state.proofs.SizeLaws.{pool_fits}
 use Rattle.handles.proofs.HandleLaws.{good_in}
 use Rattle.handles.proofs.fetch_message.Goals as goal
@@ -30,7 +30,7 @@ overflow_mul-result c =
 pub returns-then-good : goal.returns-then-good
 unfolding fetch_of pick
 returns-then-good c =
-    rw (slots_length c.args.sizes c.args.state.now, le-ltb (length c.args.pool.now) (c.args.sizes.body * c.args.sizes.slots) c.if-pool-sizes.false, sym c.is_good-good.ensures ∙ c.if-good.true) (ap (λ (t : Reassembler). Fetch (message_in c.args.sizes.body c.args.handle.index t)) c.slot_at-s.ensures.0)
+    rw (slots_length c.args.sizes c.args.state.now, le-ltb (length c.args.pool.now) (c.args.sizes.body * c.args.sizes.slots) c.if-pool-sizes.false, sym c.is_good-good.ensures ∙ c.if-good.true) (ap (λ (t : Reassembler). Ok (message_in c.args.sizes.body c.args.handle.index t)) c.slot_at-s.ensures.0)
 
 pub returns : goal.returns
 unfolding fetch_of pick

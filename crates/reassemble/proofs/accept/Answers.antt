@@ -3,8 +3,8 @@ use Prim.Native.Nat.{◌+◌}
 use mathlib.Core.Path.{sym, ap, ◌∙◌}
 use native.Mathlib.Omega.{arith}
 use borrow.Author.Tests.{ltb-false}
+use Rattle.std.specs.Prelude.{Ok}
 use Rattle.slot.specs.declared.Reassembler.{Reassembler}
-use Rattle.reassemble.specs.declared.Entry.TheVariants.{Takes}
 use Rattle.reassemble.proofs.Entries.{append_astray, append_full, append_is}
 use Rattle.reassemble.proofs.accept.Goals as goal
 
@@ -30,5 +30,5 @@ returns c =
     let n = c.beyond-n.ensures in
     let f = rw n at (sym c.overfills-over.ensures ∙ c.if-over.false) in
     let g = rw n at c.grow-slot.ensures in
-    ap (λ (x : Reassembler). Takes (record { slot = x; at = a.s.len; from = a.start; whole = a.h.eom })) g
+    ap (λ (x : Reassembler). Ok (record { slot = x; at = a.s.len; from = a.start; whole = a.h.eom })) g
     ∙ sym (append_is a.most a.stamp a.issue a.s a.h a.packet.now a.start c.if-h-s.false f)

@@ -2,8 +2,8 @@
 use mathlib.Core.Path.{sym, ◌∙◌}
 use Rattle.reassemble.proofs.is_local_dest.Goals as goal
 
-pub returns-in-Good : goal.returns-in-Good
-returns-in-Good c = rw (sym c.read_header.ensures ∙ c.in-Good.is) c.is_local.ensures
+pub returns-in-Some : goal.returns-in-Some
+returns-in-Some c = rw (sym c.read_header.ensures ∙ c.in-Some.is) c.is_local.ensures
 
-pub returns-in-Bad : goal.returns-in-Bad
-returns-in-Bad c = rw (sym c.read_header.ensures ∙ c.in-Bad.is)
+pub returns-in-None : goal.returns-in-None
+returns-in-None c = rw (sym c.read_header.ensures ∙ c.in-None.is)

@@ -3,7 +3,7 @@ use Prim.Native.Nat.{ℕ, ◌*◌, ◌≤◌, ◌<◌}
 use native.Mathlib.Omega.{arith}
 use mathlib.Core.Path.{sym, subst, ◌∙◌}
 use lib.ListN.{length}
-use Rattle.mctp.specs.declared.HeaderRead.TheVariants.{Good, Bad}
+use Rattle.std.specs.Prelude.{None, Some}
 use Rattle.mctp.specs.declared.Error.TheVariants.{PoolShort}
 use Rattle.state.specs.Stack.{stack_of}
 use Rattle.state.proofs.StackLaws.{slots_length, stays}
@@ -24,23 +24,23 @@ returns-then-pool-sizes c =
 
 pub receive_good-requires : goal.receive_good-requires
 receive_good-requires c =
-    let low = good_low c.args.packet.now c.in-Good.h (sym c.read_header.ensures ∙ c.in-Good.is) in
+    let low = good_low c.args.packet.now c.in-Some.h (sym c.read_header.ensures ∙ c.in-Some.is) in
     (c.requires, low.tag, low.seq, low.long, c.if-pool-sizes.false)
 
 pub receive_bad-requires : goal.receive_bad-requires
 receive_bad-requires c = c.requires
 
-pub returns-in-Good : goal.returns-in-Good
-returns-in-Good c =
+pub returns-in-Some : goal.returns-in-Some
+returns-in-Some c =
     let st = stack_of c.args.sizes c.args.state.now in
     let room = length c.args.pool.now in
     let l = subst (λ (n : ℕ). c.args.sizes.body * n ≤ room) (sym (slots_length c.args.sizes c.args.state.now)) c.if-pool-sizes.false in
-    makes_as c.args.sizes c.receive_good.result (sym (long_pool c.args.sizes.body st c.args.packet.now room (Good c.in-Good.h) l (sym c.read_header.ensures ∙ c.in-Good.is))) c.receive_good.ensures
+    makes_as c.args.sizes c.receive_good.result (sym (long_pool c.args.sizes.body st c.args.packet.now room (Some c.in-Some.h) l (sym c.read_header.ensures ∙ c.in-Some.is))) c.receive_good.ensures
 
-pub returns-in-Bad : goal.returns-in-Bad
-returns-in-Bad c =
+pub returns-in-None : goal.returns-in-None
+returns-in-None c =
     let st = stack_of c.args.sizes c.args.state.now in
     let room = length c.args.pool.now in
     let l = subst (λ (n : ℕ). c.args.sizes.body * n ≤ room) (sym (slots_length c.args.sizes c.args.state.now)) c.if-pool-sizes.false in
-    let q = long_pool c.args.sizes.body st c.args.packet.now room Bad l (sym c.read_header.ensures ∙ c.in-Bad.is) in
+    let q = long_pool c.args.sizes.body st c.args.packet.now room None l (sym c.read_header.ensures ∙ c.in-None.is) in
     makes_as c.args.sizes c.receive_bad.result (sym q) (record { said = c.receive_bad.ensures.0; stack = c.receive_bad.ensures.1; bytes = sym (bad_writes c.args.sizes.body st c.args.packet.now c.args.pool.now) })

@@ -1,7 +1,7 @@
 -- `receive_collecting` goes the short way where the packet is a middle one, and otherwise enters the slot that it decodes: both make what the definition says.
 use mathlib.Core.Path.{sym, ap, ◌∙◌}
+use Rattle.std.specs.Prelude.{Ok}
 use Rattle.slot.specs.declared.Reassembler.{Reassembler}
-use Rattle.reassemble.specs.declared.Gate.TheVariants.{Pass}
 use Rattle.state.specs.Stack.{stack_of}
 use Rattle.receiving.specs.Receive.{land}
 use Rattle.receiving.proofs.Receipts.{makes_as}
@@ -29,4 +29,4 @@ feed-requires c =
 
 pub returns : goal.returns
 returns c =
-    makes_as c.args.sizes c.feed.result (ap (λ (x : Reassembler). land c.args.sizes.body c.args.i (stack_of c.args.sizes c.args.state.now) c.args.h c.args.packet.now (Pass x)) c.slot_at-s.ensures.0) c.feed.ensures
+    makes_as c.args.sizes c.feed.result (ap (λ (x : Reassembler). land c.args.sizes.body c.args.i (stack_of c.args.sizes c.args.state.now) c.args.h c.args.packet.now (Ok x)) c.slot_at-s.ensures.0) c.feed.ensures

@@ -3,11 +3,10 @@ use Prim.Native.Nat.{ℕ, ◌≤◌, ◌<◌}
 use native.Mathlib.Omega.{arith}
 use mathlib.Core.Path.{sym, ap, ◌∙◌}
 use lib.ListN.{length}
+use Rattle.std.specs.Prelude.{Ok, Some}
 use Rattle.octets.specs.Find.{find}
 use Rattle.octets.proofs.Finds.{find_hit}
-use Rattle.mctp.specs.declared.HeaderRead.TheVariants.{Good}
 use Rattle.mctp.specs.declared.Error.TheVariants.{NoSpace}
-use Rattle.reassemble.specs.declared.Gate.TheVariants.{Pass}
 use Rattle.slot.specs.Slot.{blank_slot, is_empty, collects}
 use Rattle.state.specs.Stack.{stack_of, slot_at}
 use Rattle.state.proofs.StackLaws.{slots_length, stays}
@@ -25,7 +24,7 @@ pub returns-then-i-sizes : goal.returns-then-i-sizes
 returns-then-i-sizes c =
     let st = stack_of c.args.sizes c.args.state.now in
     let l : find (collects c.args.h.key) st.slots < length st.slots = omega (arith, slots_length c.args.sizes c.args.state.now, c.find_collecting-i.ensures.0, c.if-i-sizes.true) in
-    makes_as c.args.sizes c.receive_collecting.result (ap (λ (j : ℕ). land c.args.sizes.body j st c.args.h c.args.packet.now (Pass (slot_at j st))) c.find_collecting-i.ensures.0 ∙ sym (good_collecting c.args.sizes.body st c.args.packet.now c.args.h l)) c.receive_collecting.ensures
+    makes_as c.args.sizes c.receive_collecting.result (ap (λ (j : ℕ). land c.args.sizes.body j st c.args.h c.args.packet.now (Ok (slot_at j st))) c.find_collecting-i.ensures.0 ∙ sym (good_collecting c.args.sizes.body st c.args.packet.now c.args.h l)) c.receive_collecting.ensures
 
 pub find_empty-j-requires : goal.find_empty-j-requires
 find_empty-j-requires c = c.requires.0
@@ -41,7 +40,7 @@ returns-then-j-sizes c =
     let st = stack_of c.args.sizes c.args.state.now in
     let k : length st.slots ≤ find (collects c.args.h.key) st.slots = omega (arith, slots_length c.args.sizes c.args.state.now, c.find_collecting-i.ensures.0, c.if-i-sizes.false) in
     let l : find is_empty st.slots < length st.slots = omega (arith, slots_length c.args.sizes c.args.state.now, c.find_empty-j.ensures.0, c.if-j-sizes.true) in
-    makes_as c.args.sizes c.receive_opening.result (ap (λ (j : ℕ). receive_at c.args.sizes.body j st c.args.packet.now (Good c.args.h)) c.find_empty-j.ensures.0 ∙ sym (good_empty c.args.sizes.body st c.args.packet.now c.args.h k l)) c.receive_opening.ensures
+    makes_as c.args.sizes c.receive_opening.result (ap (λ (j : ℕ). receive_at c.args.sizes.body j st c.args.packet.now (Some c.args.h)) c.find_empty-j.ensures.0 ∙ sym (good_empty c.args.sizes.body st c.args.packet.now c.args.h k l)) c.receive_opening.ensures
 
 pub returns : goal.returns
 returns c =

@@ -2,9 +2,9 @@ use Rattle.rows.proofs.words_of.Goals as goal
 
 pub returns : goal.returns
 returns c = rw (
-  c.value.ensures,
+  c.cookie_value.ensures,
   c.wide-6.ensures,
-  c.present.ensures.0,
+  c.cookie_no.ensures.0,
   c.flag_word-4.ensures,
   c.flag_word-3.ensures,
   c.wide-5.ensures,

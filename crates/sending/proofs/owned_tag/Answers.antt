@@ -3,12 +3,12 @@ use mathlib.Core.Path.{sym, ap, ◌∙◌}
 use Rattle.sending.specs.Sends.{under_granted, owned_tag}
 use Rattle.sending.proofs.owned_tag.Goals as goal
 
-pub returns-in-Tag : goal.returns-in-Tag
+pub returns-in-Ok : goal.returns-in-Ok
 unfolding owned_tag
-returns-in-Tag c =
-    (ap under_granted (sym c.in-Tag.is ∙ c.set_flow-granted.ensures.0), c.set_flow-granted.ensures.1)
+returns-in-Ok c =
+    (ap under_granted (sym c.in-Ok.is ∙ c.set_flow-granted.ensures.0), c.set_flow-granted.ensures.1)
 
-pub returns-in-Refused : goal.returns-in-Refused
+pub returns-in-Err : goal.returns-in-Err
 unfolding owned_tag
-returns-in-Refused c =
-    (ap under_granted (sym c.in-Refused.is ∙ c.set_flow-granted.ensures.0), c.set_flow-granted.ensures.1)
+returns-in-Err c =
+    (ap under_granted (sym c.in-Err.is ∙ c.set_flow-granted.ensures.0), c.set_flow-granted.ensures.1)

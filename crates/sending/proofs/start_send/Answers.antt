@@ -21,14 +21,14 @@ returns-then-bad c =
     let low : c.args.send.typ.0 ≤ 127 = omega arith in
     rw (le-ltb 127 c.args.send.typ.0 low, sym c.is_bad_tag-bad.ensures ∙ c.if-bad.true) (refl, stays c.args.sizes c.args.state.now c.requires)
 
-pub returns-in-Under : goal.returns-in-Under
-returns-in-Under c =
+pub returns-in-Ok : goal.returns-in-Ok
+returns-in-Ok c =
     let low : c.args.send.typ.0 ≤ 127 = omega arith in
     let good = sym c.is_bad_tag-bad.ensures ∙ c.if-bad.false in
-    carries c.args.sizes c.args.state.now c.args.send low good _ _ _ _ (sym c.tag_for-carried.ensures.0 ∙ c.in-Under.is) c.tag_for-carried.ensures.1 c.send_under.ensures
+    carries c.args.sizes c.args.state.now c.args.send low good _ _ _ _ (sym c.tag_for-carried.ensures.0 ∙ c.in-Ok.is) c.tag_for-carried.ensures.1 c.send_under.ensures
 
-pub returns-in-Refused : goal.returns-in-Refused
-returns-in-Refused c =
+pub returns-in-Err : goal.returns-in-Err
+returns-in-Err c =
     let low : c.args.send.typ.0 ≤ 127 = omega arith in
     let good = sym c.is_bad_tag-bad.ensures ∙ c.if-bad.false in
-    uncarried c.args.sizes c.args.state.now c.args.send low good _ (sym c.tag_for-carried.ensures.0 ∙ c.in-Refused.is) c.tag_for-carried.ensures.1
+    uncarried c.args.sizes c.args.state.now c.args.send low good _ (sym c.tag_for-carried.ensures.0 ∙ c.in-Err.is) c.tag_for-carried.ensures.1

@@ -2,12 +2,12 @@
 use Prim.Native.Nat.{◌-◌, ◌≤◌}
 use mathlib.Core.Path.{◌≡◌}
 use lib.ListN.{length, drop}
-use Rattle.mctp.specs.declared.Cookie.TheVariants.{Given}
+use Rattle.std.specs.Prelude.{Some}
 use Rattle.slot.specs.Slot.{listed}
 use Rattle.slot_walks.proofs.contains.Given as goal
 
 abbrev pub invariant-loop-i : goal.invariant-loop-i
-invariant-loop-i l = (l.i ≤ length l.cookies) × (listed (drop l.i l.cookies) (Given (record { 0 = l.x })) ≡ listed l.cookies (Given (record { 0 = l.x })))
+invariant-loop-i l = (l.i ≤ length l.cookies) × (listed (drop l.i l.cookies) (Some (record { 0 = l.x })) ≡ listed l.cookies (Some (record { 0 = l.x })))
 
 abbrev pub decreases-loop-i : goal.decreases-loop-i
 decreases-loop-i l = length l.cookies - l.i

@@ -7,7 +7,7 @@ unfolding slot_of
 returns c =
     rw (
       c.decode_type_ic-t.ensures,
-      c.of-cookie.ensures,
+      c.cookie_of-cookie.ensures,
       c.state_from-state.ensures,
       c.get1-5.ensures,
       c.get8-2.ensures,

@@ -4,6 +4,7 @@ use native.Mathlib.Omega.{arith}
 use mathlib.Core.Bool.{false}
 use mathlib.Core.Path.{refl, sym, ap, ◌∙◌}
 use borrow.Author.Tests.{lt-ltb, le-ltb}
+use Rattle.std.specs.Prelude.{Ok}
 use Rattle.octets.specs.Pick.{pick}
 use Rattle.stamp.specs.declared.EventStamp.{EventStamp}
 use Rattle.stamp.specs.Stamp.{clocked}
@@ -11,7 +12,6 @@ use Rattle.state.specs.Stack.{Stack, stack_of, with_stamp}
 use Rattle.state.specs.declared.Head.{Head}
 use Rattle.state.proofs.StackLaws.{stays}
 use Rattle.updating.specs.Update.{checked, update_of}
-use Rattle.updating.specs.declared.Updated.TheVariants.{Next}
 use Rattle.updating.proofs.UpdateLaws.{clock_taken, clock_put}
 use Rattle.state.proofs.Steps.{then_says}
 use Rattle.updating.proofs.update.Goals as goal
@@ -36,7 +36,7 @@ returns-then-clock-planned c =
     let k : st.head.now.clock ≤ c.args.clock = rw c.head_at-h.ensures.0 at c.if-clock-h.false in
     let l : c.args.clock < st.head.next_timeout = rw c.head_at-h.ensures.0 at c.if-clock-planned.true in
     let p = clock_put c.args.sizes c.args.state.now _ c.args.clock _ _ c.head_at-h.ensures.0 c.update_clock-stamp.ensures c.put_clock.ensures in
-    rw (le-ltb c.args.clock st.head.now.clock k, lt-ltb c.args.clock st.head.next_timeout l) (ap (λ (t : Head). Next (t.next_timeout - c.args.clock) false) c.head_at-h.ensures.0, p)
+    rw (le-ltb c.args.clock st.head.now.clock k, lt-ltb c.args.clock st.head.next_timeout l) (ap (λ (t : Head). Ok (record { millis = (t.next_timeout - c.args.clock); expired = false })) c.head_at-h.ensures.0, p)
 
 pub check-requires : goal.check-requires
 check-requires c =

@@ -4,10 +4,10 @@ use native.Mathlib.Omega.{arith}
 use mathlib.Core.Path.{refl, sym}
 use lib.ListN.{length}
 use borrow.Author.Rules.{rules}
+use Rattle.std.specs.Prelude.{None, Ok}
 use Rattle.state.specs.Slot.{progress}
 use Rattle.state.specs.Stack.{Stack, stack_of, slot_at, with_slot, ticked}
 use Rattle.state.proofs.StackLaws.{and_then}
-use Rattle.receiving.specs.declared.Received.TheVariants.{More}
 use Rattle.receiving.proofs.Entered.{in_lent_pool, copied}
 use Rattle.receiving.proofs.Receipts.{makes_as}
 use Rattle.receiving.proofs.MiddleLaws.{goes_room, middle}
@@ -39,7 +39,7 @@ pub returns : goal.returns
 returns c =
     let st = stack_of c.args.sizes c.args.state.now in
     let n = length c.args.packet.now - 4 in
-    makes_as c.args.sizes More (sym (middle c.args.sizes.body c.args.h c.args.packet.now (slot_at c.args.i st) c.args.i st c.args.p c.requires.4 c.requires.5 c.requires.6))
+    makes_as c.args.sizes (Ok None) (sym (middle c.args.sizes.body c.args.h c.args.packet.now (slot_at c.args.i st) c.args.i st c.args.p c.requires.4 c.requires.5 c.requires.6))
     (record {
       said = refl;
       stack = and_then c.args.sizes (λ (x : Stack). with_slot c.args.i (progress ((c.args.h.seq % 4 + 1) % 4) (c.args.p.len + n) (slot_at c.args.i x)) x) c.args.state.now c.tick.new.state c.put_progress.new.state (ticked st) c.tick.ensures.1 c.put_progress.ensures;

@@ -1,7 +1,7 @@
 use Rattle.rows.proofs.answers.done_no.Goals as goal
 
-pub returns-in-Well : goal.returns-in-Well
-returns-in-Well c = rw c.in-Well.is
+pub returns-in-Ok : goal.returns-in-Ok
+returns-in-Ok c = rw c.in-Ok.is
 
-pub returns-in-Refused : goal.returns-in-Refused
-returns-in-Refused c = rw c.in-Refused.is c.number.ensures
+pub returns-in-Err : goal.returns-in-Err
+returns-in-Err c = rw c.in-Err.is c.number.ensures

@@ -1,4 +1,4 @@
 use Rattle.rows.proofs.answers.put_deferred.Goals as goal
 
-pub returns-in-Found : goal.returns-in-Found
-returns-in-Found c = rw c.in-Found.is c.handle_words.ensures
+pub returns-in-Some : goal.returns-in-Some
+returns-in-Some c = rw c.in-Some.is c.handle_words.ensures

@@ -1,7 +1,7 @@
 -- `Cookie::of` is `cookie_of`.
 use Rattle.octets.proofs.Tests.{picks}
 use Rattle.mctp.specs.Terms.{cookie_of}
-use Rattle.mctp.proofs.Cookie.of.Goals as goal
+use Rattle.mctp.proofs.cookie_of.Goals as goal
 
 pub returns-then-present-eq1 : goal.returns-then-present-eq1
 unfolding cookie_of
