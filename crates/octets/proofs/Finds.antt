@@ -6,10 +6,18 @@ use mathlib.Core.List.{List, [], ◌∷◌, ◌++◌}
 use mathlib.Core.Bool.{Bool, true, false}
 use lib.Dec.{ltb, leb-suc-suc}
 use lib.ListN.{length, get_or, set}
-use borrow.Author.Tests.{lt-ltb}
+use borrow.Author.Tests.{lt-ltb, le-ltb, ltb-true, ltb-false}
+use Rattle.std.specs.Prelude.{Option, Some, None}
 use Rattle.octets.specs.Pick.{pick, pick_cases}
-use Rattle.octets.specs.Find.{find}
+use Rattle.octets.specs.Find.{find, first}
 use Rattle.octets.proofs.Bools.{no_both, bool_cases}
+
+abbrev there : Option ℕ → Bool
+there (Some i) = true
+there None = false
+
+nothing : {i : ℕ} → ◌≡◌ {A = Option ℕ} None (Some i) → ⊥
+nothing e = no_both (ap there e) refl
 
 module _ {A : Type 0} (p : A → Bool) where
   pub find_bound : (l : List A) → find p l ≤ length l
@@ -59,6 +67,29 @@ module _ {A : Type 0} (p : A → Bool) where
 
   pub none : (l : List A) (i : ℕ) → i ≤ find p l → length l ≤ i → i ≡ find p l
   none l i h m = let b = find_bound l in omega arith
+
+  -- the place found, as an option
+  pub first_some : (l : List A) (i : ℕ) → i < length l → i ≡ find p l → Some i ≡ first p l
+  unfolding first pick
+  first_some l i m e = rw (lt-ltb (find p l) (length l) (omega (arith, e))) (ap Some e)
+
+  pub first_none : (l : List A) → length l ≤ find p l → None ≡ first p l
+  unfolding first pick
+  first_none l m = rw (le-ltb (find p l) (length l) m)
+
+  pub some_first : (l : List A) (i : ℕ) → first p l ≡ Some i → (i ≡ find p l) × (i < length l)
+  unfolding first
+  some_first l i =
+      pick_cases (λ (o : Option ℕ). o ≡ Some i → (i ≡ find p l) × (i < length l))
+      (λ t e. let j : find p l ≡ i = cc in let m = ltb-true (find p l) (length l) t in (sym j, omega (arith, j, m)))
+      (λ _ e. absurd (nothing e))
+
+  pub none_first : (l : List A) → first p l ≡ None → length l ≤ find p l
+  unfolding first
+  none_first l =
+      pick_cases (λ (o : Option ℕ). o ≡ None → length l ≤ find p l)
+      (λ _ e. absurd (nothing (sym e)))
+      (λ f _. ltb-false (find p l) (length l) f)
 
   -- a place that passes, with none before it that does, is the place found
   pub find_at : (l : List A) (i : ℕ) (d : A) → i < length l → p (get_or l i d) ≡ true → ((k : ℕ) → k < i → p (get_or l k d) ≡ false) → find p l ≡ i
