@@ -7,9 +7,9 @@ use mathlib.Core.Bool.{Bool, true, false}
 use lib.Dec.{ltb, leb-suc-suc}
 use lib.ListN.{length, get_or, set}
 use borrow.Author.Tests.{lt-ltb, le-ltb, ltb-true, ltb-false}
-use Rattle.std.specs.Prelude.{Option, Some, None}
+use Rattle.std.specs.Prelude.{Option, Some, None, MatchOption, IfSome, unwrap_or}
 use Rattle.octets.specs.Pick.{pick, pick_cases}
-use Rattle.octets.specs.Find.{find, first}
+use Rattle.octets.specs.Find.{placed, find, first}
 use Rattle.octets.proofs.Bools.{no_both, bool_cases}
 
 abbrev there : Option ℕ → Bool
@@ -18,6 +18,34 @@ there None = false
 
 nothing : {i : ℕ} → ◌≡◌ {A = Option ℕ} None (Some i) → ⊥
 nothing e = no_both (ap there e) refl
+
+-- a place as an option
+pub placed_some : (size n : ℕ) → n < size → Some n ≡ placed size n
+unfolding placed pick
+placed_some size n m = rw (lt-ltb n size m)
+
+pub placed_none : (size n : ℕ) → size ≤ n → None ≡ placed size n
+unfolding placed pick
+placed_none size n m = rw (le-ltb n size m)
+
+pub some_placed : (size n i : ℕ) → placed size n ≡ Some i → (i ≡ n) × (i < size)
+unfolding placed
+some_placed size n i =
+    pick_cases (λ (o : Option ℕ). o ≡ Some i → (i ≡ n) × (i < size))
+    (λ t e. let j : n ≡ i = cc in let m = ltb-true n size t in (sym j, omega (arith, j, m)))
+    (λ _ e. absurd (nothing e))
+
+pub none_placed : (size n : ℕ) → placed size n ≡ None → size ≤ n
+unfolding placed
+none_placed size n =
+    pick_cases (λ (o : Option ℕ). o ≡ None → size ≤ n)
+    (λ _ e. absurd (nothing (sym e)))
+    (λ f _. ltb-false n size f)
+
+-- a place below the size, or the size itself, is read back from the option
+pub is_placed : (size n : ℕ) (o : Option ℕ) → IfSome o (λ j. j < size) → unwrap_or o size ≡ n → o ≡ placed size n
+is_placed size n None h e = placed_none size n (omega (arith, e))
+is_placed size n (Some j) h e = ap Some e ∙ placed_some size n (omega (arith, e, h))
 
 module _ {A : Type 0} (p : A → Bool) where
   pub find_bound : (l : List A) → find p l ≤ length l
@@ -68,29 +96,6 @@ module _ {A : Type 0} (p : A → Bool) where
   pub none : (l : List A) (i : ℕ) → i ≤ find p l → length l ≤ i → i ≡ find p l
   none l i h m = let b = find_bound l in omega arith
 
-  -- the place found, as an option
-  pub first_some : (l : List A) (i : ℕ) → i < length l → i ≡ find p l → Some i ≡ first p l
-  unfolding first pick
-  first_some l i m e = rw (lt-ltb (find p l) (length l) (omega (arith, e))) (ap Some e)
-
-  pub first_none : (l : List A) → length l ≤ find p l → None ≡ first p l
-  unfolding first pick
-  first_none l m = rw (le-ltb (find p l) (length l) m)
-
-  pub some_first : (l : List A) (i : ℕ) → first p l ≡ Some i → (i ≡ find p l) × (i < length l)
-  unfolding first
-  some_first l i =
-      pick_cases (λ (o : Option ℕ). o ≡ Some i → (i ≡ find p l) × (i < length l))
-      (λ t e. let j : find p l ≡ i = cc in let m = ltb-true (find p l) (length l) t in (sym j, omega (arith, j, m)))
-      (λ _ e. absurd (nothing e))
-
-  pub none_first : (l : List A) → first p l ≡ None → length l ≤ find p l
-  unfolding first
-  none_first l =
-      pick_cases (λ (o : Option ℕ). o ≡ None → length l ≤ find p l)
-      (λ _ e. absurd (nothing (sym e)))
-      (λ f _. ltb-false (find p l) (length l) f)
-
   -- a place that passes, with none before it that does, is the place found
   pub find_at : (l : List A) (i : ℕ) (d : A) → i < length l → p (get_or l i d) ≡ true → ((k : ℕ) → k < i → p (get_or l k d) ≡ false) → find p l ≡ i
   find_at l i d m t f = sym (here l i d (find_least l i d (omega arith) f) m t)
@@ -98,6 +103,21 @@ module _ {A : Type 0} (p : A → Bool) where
   -- where none passes, the place found is the length
   pub find_none : (l : List A) (d : A) → ((k : ℕ) → k < length l → p (get_or l k d) ≡ false) → find p l ≡ length l
   find_none l d f = let a = find_least l (length l) d (omega arith) f in let b = find_bound l in omega arith
+
+  -- what a search over the numbers below the length finds (`first_from_Range` says it of the library's `find`)
+  abbrev pub Searched : List A → A → ℕ → Option ℕ → Type 0
+  Searched l d n r =
+      MatchOption r ((k : ℕ) → 0 ≤ k → k < n → p (get_or l k d) ≡ false)
+      (λ i. (0 ≤ i) × (i < n) × (p (get_or l i d) ≡ true) × ((k : ℕ) → 0 ≤ k → k < i → p (get_or l k d) ≡ false))
+
+  pub searched_first : (l : List A) (d : A) (n : ℕ) (r : Option ℕ) → length l ≡ n → Searched l d n r → r ≡ first p l
+  searched_first l d n None e h =
+      let f : find p l ≡ length l = find_none l d (λ k m. h k (omega arith) (omega (arith, e))) in
+      placed_none (length l) (find p l) (omega (arith, f))
+  searched_first l d n (Some i) e h =
+      let m : i < length l = omega (arith, e, h.1) in
+      let f : find p l ≡ i = find_at l i d m h.2 (λ k b. h.3 k (omega arith) b) in
+      ap Some (sym f) ∙ placed_some (length l) (find p l) (omega (arith, f, m))
 
   -- where the default does not pass, a place that passes is within the list
   pub passes_in : (l : List A) (j : ℕ) (d : A) → p d ≡ false → p (get_or l j d) ≡ true → j < length l
@@ -132,3 +152,6 @@ pub find_ext : {A : Type 0} (p q : A → Bool) (l : List A) (d : A) → ((i : �
 unfolding find
 find_ext p q [] d h = refl
 find_ext p q (x ∷ l) d h = rw (h 0 (omega arith), find_ext p q l d (λ i m. h (suc i) (omega arith)))
+
+pub first_ext : {A : Type 0} (p q : A → Bool) (l : List A) (d : A) → ((i : ℕ) → i < length l → p (get_or l i d) ≡ q (get_or l i d)) → first p l ≡ first q l
+first_ext p q l d h = ap (placed (length l)) (find_ext p q l d h)

@@ -3,7 +3,7 @@
 -- Leans on `find`, and on specs/Slot.antt.
 use Rattle.std.specs.Prelude.{ℕ, suc, Bool, List, [], ◌∷◌, ltb, length, get_or, None, Option, Some}
 use Rattle.octets.specs.Pick.{pick}
-use Rattle.octets.specs.Find.{find}
+use Rattle.octets.specs.Find.{placed, find}
 use Rattle.stamp.specs.Stamp.{earlier}
 use Rattle.slot.specs.declared.Reassembler.{Reassembler}
 use Rattle.slot.specs.Slot.{blank_slot, is_empty, is_done, collects}
@@ -23,3 +23,7 @@ earliest f (s ∷ l) =
     (pick (f s) (pick (ltb (earliest f l) (length l)) (pick (earlier (get_or l (earliest f l) blank_slot).stamp s.stamp) (suc (earliest f l)) 0) 0)
     (suc (earliest f l)))
     (suc (earliest f l))
+
+-- the same as an option
+abbrev pub earliest_place : (Reassembler → Bool) → List Reassembler → Option ℕ
+earliest_place f l = placed (length l) (earliest f l)

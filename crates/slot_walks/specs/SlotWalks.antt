@@ -1,16 +1,14 @@
 -- What a walk over the slots of a stack looks for and makes.
--- A cancel's sweep; the better of two messages; what a search asks of a slot.
+-- A cancel's sweep; the better of two messages; what a test computes.
 -- Leans on `slot` for one slot, on `state` for its first bytes.
-use Rattle.std.specs.Prelude.{ℕ, Bool, true, false, List, [], ◌∷◌, length, get_or, ltb, eqb}
+use Rattle.std.specs.Prelude.{ℕ, ◌≡◌, Bool, true, false, List, [], ◌∷◌, length, get_or, ltb, eqb}
 use Rattle.octets.specs.Pick.{pick}
 use Rattle.mctp.specs.declared.Eid.{Eid}
 use Rattle.mctp.specs.declared.TagValue.{TagValue}
 use Rattle.stamp.specs.Stamp.{earlier}
 use Rattle.slot.specs.declared.Reassembler.{Reassembler}
-use Rattle.slot.specs.Slot.{blank_slot, is_reply, handle_taken, kept_under, listed}
+use Rattle.slot.specs.Slot.{blank_slot, is_reply, handle_taken}
 use Rattle.state.specs.Slot.{key_word}
-use Rattle.slot_walks.specs.declared.Choice.{Choice}
-use Rattle.slot_walks.specs.declared.Choice.TheVariants.{From, Listed}
 
 -- a cancel walks the slots upward: it frees the replies of that peer and tag, and stops at one with a handle out
 unfoldable pub swept : Eid → TagValue → List Reassembler → List Reassembler
@@ -22,10 +20,9 @@ unfoldable pub blocked : Eid → TagValue → List Reassembler → Bool
 blocked peer tag [] = false
 blocked peer tag (s ∷ l) = pick (is_reply peer tag s) (pick (handle_taken s) true (blocked peer tag l)) (blocked peer tag l)
 
--- what a search for a done message asks of a slot
-abbrev pub chosen : Choice → List ℕ → Reassembler → Bool
-chosen (From peer owner tag) cookies s = kept_under peer owner tag s
-chosen Listed cookies s = listed cookies s.cookie
+-- a test's answers are those of p
+abbrev pub Computes : (Reassembler → Bool → Type 0) → (Reassembler → Bool) → Type 0
+Computes post p = (s : Reassembler) (b : Bool) → post s b → b ≡ p s
 
 -- whether a slot's first four bytes are that number
 abbrev pub has_word : ℕ → Reassembler → Bool

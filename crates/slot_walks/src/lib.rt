@@ -4,17 +4,18 @@
 
 #![tactic(auto)]
 
-ghost use Rattle.std.specs.Prelude.{◌≡◌, map, ◌∷◌, [], ◌≤◌, ◌<◌, get_or};
-ghost use Rattle.octets.specs.Find.{find};
+ghost use Rattle.std.specs.Prelude.{◌≡◌, map, ◌∷◌, [], ◌<◌, get_or, Bool, IfSome, unwrap_or};
+ghost use Rattle.octets.specs.Find.{first};
 ghost use Rattle.slot.specs.Slot.{blank_slot, is_empty, collects, kept_under, listed, slot_timeout, faded_slot};
-ghost use Rattle.slot.specs.Search.{earliest};
+ghost use Rattle.slot.specs.Search.{earliest_place};
 ghost use Rattle.state.specs.Slot.{word_of};
 ghost use Rattle.state.specs.Stack.{Kept, Becomes, stack_of, slot_at, with_slot, with_slots};
 ghost use Rattle.stamp.specs.Checks.{check_of};
 ghost use Rattle.state.specs.Times.{slot_times};
-ghost use Rattle.slot_walks.specs.SlotWalks.{swept, blocked, has_word, better_of, chosen};
+ghost use Rattle.slot_walks.specs.SlotWalks.{swept, blocked, has_word, better_of, Computes};
+ghost use Rattle.slot.specs.declared.Reassembler.{Reassembler};
 
-use mctp::{Eid, Key, TagValue, AppCookie};
+use mctp::{AppCookie, Eid, Key, TagValue};
 use slot::Reassembler;
 use stamp::Check;
 use state::Sizes;
@@ -28,47 +29,31 @@ fn word_of(key: Key) -> u32
     1 + 256 * (key.dest.0 as u32 + 256 * (key.source.0 as u32 + 256 * (from as u32)))
 }
 
-fn find_word(state: &[u8], sizes: Sizes, w: u32) -> usize
+fn find_word(state: &[u8], sizes: Sizes, w: u32) -> Option<usize>
     requires { Kept sizes state.now }
-    ensures { (result ≡ find (has_word w) (stack_of sizes state.now).slots) × (result ≤ sizes.slots) }
+    ensures { result ≡ first (has_word w) (stack_of sizes state.now).slots }
 {
-    let n = sizes.slots;
-    let mut i = 0;
-    while i < n {
-        if state::word_at(state, sizes, i) == w {
-            return i;
-        }
-        i += 1;
-    }
-    i
+    (0..sizes.slots).find(|&i| state::word_at(state, sizes, i) == w)
 }
 
-// The first slot that collects under a key, or the number of slots.
-pub fn find_collecting(state: &[u8], sizes: Sizes, key: Key) -> usize
+// The first slot that collects under a key.
+pub fn find_collecting(state: &[u8], sizes: Sizes, key: Key) -> Option<usize>
     requires { Kept sizes state.now }
-    ensures { (result ≡ find (collects key) (stack_of sizes state.now).slots) × (result ≤ sizes.slots) }
+    ensures { result ≡ first (collects key) (stack_of sizes state.now).slots }
 {
     // no slot is kept under a tag above 7
     if 7 < key.tag.0 {
-        return sizes.slots;
+        return None;
     }
     find_word(state, sizes, word_of(key))
 }
 
-// The first empty slot, or the number of slots.
-pub fn find_empty(state: &[u8], sizes: Sizes) -> usize
+// The first empty slot.
+pub fn find_empty(state: &[u8], sizes: Sizes) -> Option<usize>
     requires { Kept sizes state.now }
-    ensures { (result ≡ find is_empty (stack_of sizes state.now).slots) × (result ≤ sizes.slots) }
+    ensures { result ≡ first is_empty (stack_of sizes state.now).slots }
 {
-    let n = sizes.slots;
-    let mut i = 0;
-    while i < n {
-        if state::state_at(state, sizes, i) == 0 {
-            return i;
-        }
-        i += 1;
-    }
-    i
+    (0..sizes.slots).find(|&i| state::state_at(state, sizes, i) == 0)
 }
 
 // Checks the time of one slot: an expired slot is emptied.
@@ -78,8 +63,7 @@ fn expire_slot(state: &mut [u8], sizes: Sizes, i: usize, clock: u64, c: Check) -
 {
     let t = state::slot_at(state, sizes, i).check_expired(clock);
     let found = c.noted(t);
-    let expired = t.is_expired();
-    if expired {
+    if t.is_expired() {
         state::put_slot(state, sizes, i, slot::blank());
     }
     found
@@ -90,37 +74,30 @@ pub fn expire_slots(state: &mut [u8], sizes: Sizes, clock: u64, c: Check) -> Che
     requires { Kept sizes state.old }
     ensures { (result ≡ check_of (slot_times clock (stack_of sizes state.old)) c) × Becomes sizes state.old state.new (with_slots (map (faded_slot clock) (stack_of sizes state.old).slots) (stack_of sizes state.old)) }
 {
-    let n = sizes.slots;
     let mut found = c;
-    let mut i = 0;
-    while i < n {
+    for i in 0..sizes.slots {
         found = expire_slot(state, sizes, i, clock, found);
-        i += 1;
     }
     found
 }
 
 // The better of slot i, which passes the test, and the best of the slots after it: the one with the earlier stamp, and slot i when the stamps are equal.
-fn better(state: &[u8], sizes: Sizes, i: usize, best: usize) -> usize
-    requires { Kept sizes state.now × (i < sizes.slots) × (best ≤ sizes.slots) }
-    ensures { result ≡ better_of i best (stack_of sizes state.now).slots }
+fn better(state: &[u8], sizes: Sizes, i: usize, best: Option<usize>) -> usize
+    requires kept { Kept sizes state.now }
+    requires slots { (i < sizes.slots) × IfSome best (λ j. j < sizes.slots) }
+    ensures better { result ≡ better_of i (unwrap_or best sizes.slots) (stack_of sizes state.now).slots }
+    ensures slot { result < sizes.slots }
 {
-    if best < sizes.slots {
-        let a = state::slot_at(state, sizes, best).stamp;
-        let b = state::slot_at(state, sizes, i).stamp;
-        let before = a.is_before(b);
-        if before {
-            return best;
-        }
+    let Some(j) = best else {
+        return i;
+    };
+    let a = state::slot_at(state, sizes, j).stamp;
+    let b = state::slot_at(state, sizes, i).stamp;
+    let before = a.is_before(b);
+    if before {
+        return j;
     }
     i
-}
-
-// What a search for a done message asks of a slot: its sender and tag, or that its cookie is one of a list.
-#[derive(Clone, Copy)]
-enum Choice {
-    From(Eid, bool, TagValue),
-    Listed,
 }
 
 // Whether a cookie is one of a list.
@@ -129,67 +106,46 @@ fn is_listed(cookies: &[u64], cookie: Option<AppCookie>) -> bool
 {
     match cookie {
         None => false,
-        Some(c) => contains(cookies, c.0),
+        Some(c) => cookies.contains(&c.0),
     }
 }
 
-fn contains(cookies: &[u64], x: u64) -> bool
-    ensures { result ≡ listed cookies.now (Some (record { 0 = x })) }
+// The earliest done slot that passes the test, and of equal stamps the one with the lowest index. The test computes any `p`.
+fn earliest_of<F: Fn(Reassembler) -> bool>(state: &[u8], sizes: Sizes, passes: F) -> Option<usize>
+    requires kept { Kept sizes state.now }
+    requires callable { F.IsAlwaysCallable passes }
+    ensures { (p : Reassembler → Bool) → Computes (F.post passes) p → result ≡ earliest_place p (stack_of sizes state.now).slots }
 {
-    let mut i = 0;
-    while i < cookies.len() {
-        if cookies[i] == x {
-            return true;
-        }
-        i += 1;
-    }
-    false
-}
-
-fn passes(s: Reassembler, choice: Choice, cookies: &[u64]) -> bool
-    ensures { result ≡ chosen choice cookies.now s }
-{
-    let cookie = s.cookie;
-    match choice {
-        Choice::From(peer, owner, tag) => slot::is_from(s, peer, owner, tag),
-        Choice::Listed => is_listed(cookies, cookie),
-    }
-}
-
-// The earliest done slot that passes, the lowest index of equal stamps, or the number of slots.
-fn earliest_of(state: &[u8], sizes: Sizes, choice: Choice, cookies: &[u64]) -> usize
-    requires { Kept sizes state.now }
-    ensures { (result ≡ earliest (chosen choice cookies.now) (stack_of sizes state.now).slots) × (result ≤ sizes.slots) }
-{
-    let mut best = sizes.slots;
-    let mut i = sizes.slots;
-    while 0 < i {
-        i -= 1;
+    let mut best = None;
+    for i in (0..sizes.slots).rev() {
         let s = state::slot_at(state, sizes, i);
-        if s.is_done() {
-            if passes(s, choice, cookies) {
-                best = better(state, sizes, i, best);
-            }
+        if s.is_done() && passes(s) {
+            best = Some(better(state, sizes, i, best));
         }
     }
     best
 }
 
-// The earliest done slot from that peer under that tag, the lowest index of equal stamps, or the number of slots.
-pub fn earliest_from(state: &[u8], sizes: Sizes, peer: Eid, owner: bool, tag: TagValue) -> usize
+// The earliest done slot from that peer under that tag; of equal stamps the one with the lowest index.
+pub fn earliest_from(
+    state: &[u8],
+    sizes: Sizes,
+    peer: Eid,
+    owner: bool,
+    tag: TagValue,
+) -> Option<usize>
     requires { Kept sizes state.now }
-    ensures { (result ≡ earliest (kept_under peer owner tag) (stack_of sizes state.now).slots) × (result ≤ sizes.slots) }
+    ensures { result ≡ earliest_place (kept_under peer owner tag) (stack_of sizes state.now).slots }
 {
-    let unread = [0];
-    earliest_of(state, sizes, Choice::From(peer, owner, tag), &unread)
+    earliest_of(state, sizes, |s| slot::is_from(s, peer, owner, tag))
 }
 
-// The earliest done slot whose cookie is one of the list, the lowest index of equal stamps, or the number of slots.
-pub fn earliest_listed(state: &[u8], sizes: Sizes, cookies: &[u64]) -> usize
+// The earliest done slot whose cookie is one of the list; of equal stamps the one with the lowest index.
+pub fn earliest_listed(state: &[u8], sizes: Sizes, cookies: &[u64]) -> Option<usize>
     requires { Kept sizes state.now }
-    ensures { (result ≡ earliest (λ s. listed cookies.now s.cookie) (stack_of sizes state.now).slots) × (result ≤ sizes.slots) }
+    ensures { result ≡ earliest_place (λ s. listed cookies.now s.cookie) (stack_of sizes state.now).slots }
 {
-    earliest_of(state, sizes, Choice::Listed, cookies)
+    earliest_of(state, sizes, |s| is_listed(cookies, s.cookie))
 }
 
 // One slot of a cancel's walk: a reply with no handle out is freed. It tells whether the walk stops there.
@@ -198,15 +154,13 @@ fn sweep_slot(state: &mut [u8], sizes: Sizes, i: usize, peer: Eid, tag: TagValue
     ensures { (result ≡ blocked peer tag (slot_at i (stack_of sizes state.old) ∷ [])) × Becomes sizes state.old state.new (with_slot i (get_or (swept peer tag (slot_at i (stack_of sizes state.old) ∷ [])) 0 blank_slot) (stack_of sizes state.old)) }
 {
     let s = state::slot_at(state, sizes, i);
-    let reply = slot::is_reply(s, peer, tag);
-    if reply {
-        let out = s.handle_taken();
-        if out {
-            return true; // the walk stops at a handle
-        }
-        state::put_slot(state, sizes, i, slot::blank());
+    if !slot::is_reply(s, peer, tag) {
         return false;
     }
+    if s.handle_taken() {
+        return true; // the walk stops at a handle
+    }
+    state::put_slot(state, sizes, i, slot::blank());
     false
 }
 
@@ -215,14 +169,10 @@ pub fn sweep(state: &mut [u8], sizes: Sizes, peer: Eid, tag: TagValue) -> bool
     requires { Kept sizes state.old }
     ensures { (result ≡ blocked peer tag (stack_of sizes state.old).slots) × Becomes sizes state.old state.new (with_slots (swept peer tag (stack_of sizes state.old).slots) (stack_of sizes state.old)) }
 {
-    let n = sizes.slots;
-    let mut i = 0;
-    while i < n {
-        let stops = sweep_slot(state, sizes, i, peer, tag);
-        if stops {
+    for i in 0..sizes.slots {
+        if sweep_slot(state, sizes, i, peer, tag) {
             return true;
         }
-        i += 1;
     }
     false
 }

@@ -1,43 +1,49 @@
-use mathlib.Core.Bool.{true, false}
-use mathlib.Core.Path.{◌≡◌, sym, ◌∙◌}
-use borrow.Author.Rules.{rules}
-use Rattle.slot_walks.specs.SlotWalks.{chosen}
-use Rattle.slot_walks.proofs.SlotSearch.{seen_bound, seen_start, seen_takes, seen_fails, seen_open, seen_done}
+-- `earliest_of` goes down from the last slot: what the test says of a slot is what p says.
+use native.Mathlib.Omega.{arith}
+use mathlib.Core.Path.{sym, ap, ◌∙◌}
+use Prim.Native.Nat.{ℕ}
+use Rattle.octets.specs.Find.{placed}
+use Rattle.octets.proofs.Finds.{is_placed}
+use Rattle.slot.specs.Search.{earliest}
+use Rattle.state.specs.Stack.{stack_of}
+use Rattle.state.proofs.StackLaws.{slots_length}
+use Rattle.slot_walks.proofs.SlotSearch.{seen_start, seen_takes, seen_fails, seen_open, seen_done}
 use Rattle.slot_walks.proofs.earliest_of.Goals as goal
+use Rattle.slot_walks.proofs.earliest_of.Goals.{else-is_done-via-then-is_done+else-passes, else-is_done-via-else-is_done}
 
 pub loop-i-init : goal.loop-i-init
-loop-i-init c =
-    seen_start c.args.sizes c.args.state.now (chosen c.args.choice c.args.cookies.now)
+loop-i-init g c = record { slot = tt; seen = λ p q. seen_start c.args.sizes c.args.state.now p }
 
-pub slot_at-s-requires : goal.slot_at-s-requires
-slot_at-s-requires c = c.requires
-
-pub better-best-requires : goal.better-best-requires
-better-best-requires c =
-    let f = chosen c.args.choice c.args.cookies.now in
-    (c.requires, search rules, seen_bound c.args.sizes c.args.state.now f c.loop-i.i c.loop-i.best c.loop-i.invariant)
+pub better-requires-clause-slots : goal.better-requires-clause-slots
+better-requires-clause-slots g c = (omega arith, c.loop-i.invariant.slot)
 
 pub loop-i-preserved-then-passes : goal.loop-i-preserved-then-passes
-loop-i-preserved-then-passes c =
-    let done : c.is_done.result ≡ true = search rules in
-    let f = chosen c.args.choice c.args.cookies.now in
-    seen_takes c.args.sizes c.args.state.now f c.loop-i.i c.loop-i.best c.loop-i.invariant c.loop-i-test.true _ c.slot_at-s.ensures.0 _
-    (sym c.is_done.ensures ∙ done) (sym c.passes.ensures ∙ c.if-passes.true) c.better-best.ensures
-
-pub loop-i-preserved-else-passes : goal.loop-i-preserved-else-passes
-loop-i-preserved-else-passes c =
-    let done : c.is_done.result ≡ true = search rules in
-    let f = chosen c.args.choice c.args.cookies.now in
-    seen_fails c.args.sizes c.args.state.now f c.loop-i.i c.loop-i.best c.loop-i.invariant c.loop-i-test.true _ c.slot_at-s.ensures.0
-    (sym c.is_done.ensures ∙ done) (sym c.passes.ensures ∙ c.if-passes.false)
+loop-i-preserved-then-passes g c = record {
+  slot = c.better.ensures.slot;
+  seen = λ p q.
+      seen_takes c.args.sizes c.args.state.now p c.loop-i.i _ (c.loop-i.invariant.seen p q) c.loop-i-test.true _ c.slot_at-s.ensures.0 _
+      (sym c.is_done.ensures ∙ c.if-is_done.true) (sym (q _ _ c.passes.ensures) ∙ c.if-passes.true) c.better.ensures.better;
+}
 
 pub loop-i-preserved : goal.loop-i-preserved
-loop-i-preserved c =
-    let done : c.is_done.result ≡ false = search rules in
-    let f = chosen c.args.choice c.args.cookies.now in
-    seen_open c.args.sizes c.args.state.now f c.loop-i.i c.loop-i.best c.loop-i.invariant c.loop-i-test.true _ c.slot_at-s.ensures.0
-    (sym c.is_done.ensures ∙ done)
+loop-i-preserved g c = record {
+  slot = c.loop-i.invariant.slot;
+  seen = λ p q.
+      elim c.else-is_done.branch [
+        | else-is_done-via-then-is_done+else-passes w ↦
+            seen_fails c.args.sizes c.args.state.now p c.loop-i.i _ (c.loop-i.invariant.seen p q) c.loop-i-test.true _ c.slot_at-s.ensures.0
+            (sym c.is_done.ensures ∙ w.if-is_done.true) (sym (q _ _ w.passes.ensures) ∙ w.if-passes.false)
+        | else-is_done-via-else-is_done w ↦
+            seen_open c.args.sizes c.args.state.now p c.loop-i.i _ (c.loop-i.invariant.seen p q) c.loop-i-test.true _ c.slot_at-s.ensures.0
+            (sym c.is_done.ensures ∙ w.if-is_done.false)
+      ];
+}
 
 pub returns : goal.returns
-returns c =
-    seen_done c.args.sizes c.args.state.now (chosen c.args.choice c.args.cookies.now) c.loop-i.i c.loop-i.best c.loop-i.invariant c.loop-i-test.false
+returns g c =
+    λ p q.
+    let z = c.args.sizes in
+    let l = (stack_of z c.args.state.now).slots in
+    let s = seen_done z c.args.state.now p c.loop-i.i _ (c.loop-i.invariant.seen p q) c.loop-i-test.false in
+    is_placed z.slots (earliest p l) c.loop-i.best c.loop-i.invariant.slot s.0
+    ∙ ap (λ (n : ℕ). placed n (earliest p l)) (sym (slots_length z c.args.state.now))

@@ -12,12 +12,12 @@ put_slot-requires c =
     let B = c.args.sizes.body in
     (search rules, subst (λ (s : Reassembler). SlotOk B s) (sym c.blank.ensures) (blank_ok B))
 
-pub returns-then-expired : goal.returns-then-expired
-returns-then-expired c =
-    expire_gone timed_slots _ _ _ _ _ c.slot_at.ensures.0 c.check_expired-t.ensures c.noted-found.ensures c.is_expired-expired.ensures
-    c.if-expired.true c.blank.ensures c.put_slot.ensures
+pub returns-then-is_expired : goal.returns-then-is_expired
+returns-then-is_expired c =
+    expire_gone timed_slots _ _ _ _ _ c.slot_at.ensures.0 c.check_expired-t.ensures c.noted-found.ensures c.is_expired.ensures
+    c.if-is_expired.true c.blank.ensures c.put_slot.ensures
 
-pub returns-else-expired : goal.returns-else-expired
-returns-else-expired c =
-    expire_stays timed_slots _ _ _ _ _ c.slot_at.ensures.0 c.check_expired-t.ensures c.noted-found.ensures c.is_expired-expired.ensures
-    c.if-expired.false c.requires.0
+pub returns-else-is_expired : goal.returns-else-is_expired
+returns-else-is_expired c =
+    expire_stays timed_slots _ _ _ _ _ c.slot_at.ensures.0 c.check_expired-t.ensures c.noted-found.ensures c.is_expired.ensures
+    c.if-is_expired.false c.requires.0

@@ -1,22 +1,19 @@
-use mathlib.Core.Path.{sym, ◌∙◌}
-use borrow.Author.Tests.{eq-eqb, ne_eqb}
-use Rattle.slot.specs.Slot.{is_empty}
+-- `find_empty` asks each slot in turn for its state.
+use mathlib.Core.Path.{◌≡◌, sym}
+use mathlib.Core.Bool.{true, false}
+use borrow.Author.Rules.{rules}
+use borrow.Author.Tests.{tests}
+use Rattle.std.proofs.lemmas.Iterator.{first_from_Range}
+use Rattle.octets.proofs.Finds.{searched_first}
+use Rattle.slot.specs.Slot.{blank_slot, is_empty}
 use Rattle.state.specs.Stack.{stack_of, slot_at}
+use Rattle.state.proofs.StackLaws.{slots_length}
 use Rattle.state.proofs.Words.{state_empty}
-use Rattle.slot_walks.proofs.SlotSearch.{find_here, find_on, find_end}
 use Rattle.slot_walks.proofs.find_empty.Goals as goal
-
-pub state_at-requires : goal.state_at-requires
-state_at-requires c = c.requires
-
-pub returns-then-state_at-eq0 : goal.returns-then-state_at-eq0
-returns-then-state_at-eq0 c =
-    find_here c.args.sizes c.args.state.now is_empty c.loop-i.i c.loop-i.invariant.1 c.loop-i-test.true (sym (state_empty (slot_at c.loop-i.i (stack_of c.args.sizes c.args.state.now))) ∙ eq-eqb _ 0 (sym c.state_at.ensures ∙ c.if-state_at-eq0.true))
-
-pub loop-i-preserved : goal.loop-i-preserved
-loop-i-preserved c =
-    find_on c.args.sizes c.args.state.now is_empty c.loop-i.i c.loop-i.invariant.1 c.loop-i-test.true (sym (state_empty (slot_at c.loop-i.i (stack_of c.args.sizes c.args.state.now))) ∙ ne_eqb _ 0 (λ h. c.if-state_at-eq0.false (c.state_at.ensures ∙ h)))
 
 pub returns : goal.returns
 returns c =
-    find_end c.args.sizes c.args.state.now is_empty c.loop-i.i c.loop-i.invariant.1 c.loop-i.invariant.0 c.loop-i-test.false
+    let st = stack_of c.args.sizes c.args.state.now in
+    searched_first is_empty st.slots blank_slot c.args.sizes.slots c.find.result (slots_length c.args.sizes c.args.state.now)
+    (first_from_Range _ _ _ c.find.result (λ i. is_empty (slot_at i st) ≡ true) (λ i. is_empty (slot_at i st) ≡ false) c.find.ensures.ran
+    (λ x q k. rw (sym (state_empty (slot_at x st))) (search (rules, tests))) (λ x q k. let e = state_empty (slot_at x st) in search (rules, tests)))

@@ -1,20 +1,21 @@
-use mathlib.Core.Path.{sym, ◌∙◌}
-use borrow.Author.Tests.{eq-eqb, ne_eqb}
+-- `find_word` asks each slot in turn for its number.
+use mathlib.Core.Path.{◌≡◌}
+use mathlib.Core.Bool.{true, false}
+use lib.ListN.{get_or}
+use borrow.Author.Tests.{tests}
+use borrow.Author.Rules.{rules}
+use Rattle.std.proofs.lemmas.Iterator.{first_from_Range}
+use Rattle.octets.proofs.Finds.{searched_first}
+use Rattle.slot.specs.Slot.{blank_slot}
+use Rattle.state.specs.Stack.{stack_of}
+use Rattle.state.proofs.StackLaws.{slots_length}
 use Rattle.slot_walks.specs.SlotWalks.{has_word}
-use Rattle.slot_walks.proofs.SlotSearch.{find_here, find_on, find_end}
 use Rattle.slot_walks.proofs.find_word.Goals as goal
-
-pub word_at-requires : goal.word_at-requires
-word_at-requires c = c.requires
-
-pub returns-then-word_at-w : goal.returns-then-word_at-w
-returns-then-word_at-w c =
-    find_here c.args.sizes c.args.state.now (has_word c.args.w) c.loop-i.i c.loop-i.invariant.1 c.loop-i-test.true (eq-eqb _ c.args.w (sym c.word_at.ensures ∙ c.if-word_at-w.true))
-
-pub loop-i-preserved : goal.loop-i-preserved
-loop-i-preserved c =
-    find_on c.args.sizes c.args.state.now (has_word c.args.w) c.loop-i.i c.loop-i.invariant.1 c.loop-i-test.true (ne_eqb _ c.args.w (λ h. c.if-word_at-w.false (c.word_at.ensures ∙ h)))
 
 pub returns : goal.returns
 returns c =
-    find_end c.args.sizes c.args.state.now (has_word c.args.w) c.loop-i.i c.loop-i.invariant.1 c.loop-i.invariant.0 c.loop-i-test.false
+    let l = (stack_of c.args.sizes c.args.state.now).slots in
+    let p = has_word c.args.w in
+    searched_first p l blank_slot c.args.sizes.slots c.find.result (slots_length c.args.sizes c.args.state.now)
+    (first_from_Range _ _ _ c.find.result (λ i. p (get_or l i blank_slot) ≡ true) (λ i. p (get_or l i blank_slot) ≡ false) c.find.ensures.ran
+    (λ x q k. search (rules, tests)) (λ x q k. search (rules, tests)))

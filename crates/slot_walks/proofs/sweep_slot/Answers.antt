@@ -10,8 +10,8 @@ use Rattle.slot_walks.proofs.SlotChecks.{swept_slot, stops, frees, passes}
 use borrow.Author.Rules.{rules}
 use Rattle.slot_walks.proofs.sweep_slot.Goals as goal
 
-pub returns-then-out : goal.returns-then-out
-returns-then-out c =
+pub returns-then-not-is_reply : goal.returns-then-not-is_reply
+returns-then-not-is_reply c =
     let z = c.args.sizes in
     let b = c.args.state.now in
     let i = c.args.i in
@@ -19,8 +19,21 @@ returns-then-out c =
     let t = c.args.tag in
     let a = slot_at i (stack_of z b) in
     let e = sym c.slot_at-s.ensures.0 in
-    let r = ap (is_reply p t) e ∙ sym c.is_reply-reply.ensures ∙ c.if-reply.true in
-    let h = ap handle_taken e ∙ sym c.handle_taken-out.ensures ∙ c.if-out.true in
+    let r = ap (is_reply p t) e ∙ sym c.is_reply.ensures ∙ c.if-not-is_reply.true in
+    let w = passes p t a r in
+    (w.0, stored_as slot_part z b i b a (swept_slot p t a) w.1 (same_stored slot_part z b i c.requires.0))
+
+pub returns-then-handle_taken : goal.returns-then-handle_taken
+returns-then-handle_taken c =
+    let z = c.args.sizes in
+    let b = c.args.state.now in
+    let i = c.args.i in
+    let p = c.args.peer in
+    let t = c.args.tag in
+    let a = slot_at i (stack_of z b) in
+    let e = sym c.slot_at-s.ensures.0 in
+    let r = ap (is_reply p t) e ∙ sym c.is_reply.ensures ∙ c.if-not-is_reply.false in
+    let h = ap handle_taken e ∙ sym c.handle_taken.ensures ∙ c.if-handle_taken.true in
     let w = stops p t a r h in
     (w.0, stored_as slot_part z b i b a (swept_slot p t a) w.1 (same_stored slot_part z b i c.requires.0))
 
@@ -28,20 +41,6 @@ pub put_slot-requires : goal.put_slot-requires
 put_slot-requires c =
     let B = c.args.sizes.body in
     (search rules, subst (λ (s : Reassembler). SlotOk B s) (sym c.blank.ensures) (blank_ok B))
-
-pub returns-then-reply : goal.returns-then-reply
-returns-then-reply c =
-    let z = c.args.sizes in
-    let b = c.args.state.now in
-    let i = c.args.i in
-    let p = c.args.peer in
-    let t = c.args.tag in
-    let a = slot_at i (stack_of z b) in
-    let e = sym c.slot_at-s.ensures.0 in
-    let r = ap (is_reply p t) e ∙ sym c.is_reply-reply.ensures ∙ c.if-reply.true in
-    let h = ap handle_taken e ∙ sym c.handle_taken-out.ensures ∙ c.if-out.false in
-    let w = frees p t a r h in
-    (w.0, stored_as slot_part z b i _ _ (swept_slot p t a) (c.blank.ensures ∙ w.1) c.put_slot.ensures)
 
 pub returns : goal.returns
 returns c =
@@ -52,6 +51,7 @@ returns c =
     let t = c.args.tag in
     let a = slot_at i (stack_of z b) in
     let e = sym c.slot_at-s.ensures.0 in
-    let r = ap (is_reply p t) e ∙ sym c.is_reply-reply.ensures ∙ c.if-reply.false in
-    let w = passes p t a r in
-    (w.0, stored_as slot_part z b i b a (swept_slot p t a) w.1 (same_stored slot_part z b i c.requires.0))
+    let r = ap (is_reply p t) e ∙ sym c.is_reply.ensures ∙ c.if-not-is_reply.false in
+    let h = ap handle_taken e ∙ sym c.handle_taken.ensures ∙ c.if-handle_taken.false in
+    let w = frees p t a r h in
+    (w.0, stored_as slot_part z b i _ _ (swept_slot p t a) (c.blank.ensures ∙ w.1) c.put_slot.ensures)
