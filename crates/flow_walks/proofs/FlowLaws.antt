@@ -4,14 +4,14 @@ use mathlib.Core.Path.{◌≡◌, sym, ◌∙◌}
 use mathlib.Core.List.{List}
 use borrow.Author.Tests.{eq-eqb, ne_eqb}
 use lib.ListN.{get_or}
-use Rattle.octets.specs.Find.{find}
+use Rattle.octets.specs.Find.{first}
 use Rattle.octets.proofs.Bools.{no_both, bool_cases}
-use Rattle.octets.proofs.Finds.{find_ext}
+use Rattle.octets.proofs.Finds.{first_ext}
 use Rattle.mctp.specs.declared.Eid.{Eid}
 use Rattle.mctp.specs.declared.TagValue.{TagValue}
 use Rattle.flows.specs.declared.Flow.{Flow}
 use Rattle.flows.specs.Codec.{FlowOk, flow_word}
-use Rattle.flows.specs.Table.{no_flow, is_flow, flow_place}
+use Rattle.flows.specs.Table.{no_flow, is_flow}
 use Rattle.flows.proofs.CodecLaws.{word_is, is_word}
 use Rattle.state.specs.declared.Sizes.{Sizes}
 use Rattle.state.specs.Stack.{Kept, stack_of}
@@ -27,7 +27,7 @@ word_flow peer tag f ok p t =
 
 module _ (z : Sizes) (b : List ℕ) (k : Kept z b) where
   pub word-place : (peer : Eid) (tag : TagValue) → peer.0 < 256 → tag.0 < 256
-      → find (has_flow_word (1 + 256 * (peer.0 + 256 * tag.0))) (stack_of z b).flows ≡ flow_place peer tag (stack_of z b).flows
+      → first (has_flow_word (1 + 256 * (peer.0 + 256 * tag.0))) (stack_of z b).flows ≡ first (is_flow peer tag) (stack_of z b).flows
   word-place peer tag p t =
-      find_ext (has_flow_word (1 + 256 * (peer.0 + 256 * tag.0))) (is_flow peer tag) (stack_of z b).flows no_flow
+      first_ext (has_flow_word (1 + 256 * (peer.0 + 256 * tag.0))) (is_flow peer tag) (stack_of z b).flows no_flow
       (λ i h. word_flow peer tag (get_or (stack_of z b).flows i no_flow) (flow_ok z b k i) p t)

@@ -6,36 +6,28 @@
 
 ghost use Rattle.std.specs.Prelude.{◌≡◌, map, ◌∷◌, [], ◌≤◌, ◌<◌};
 ghost use Rattle.config.specs.Config.{flow_count};
-ghost use Rattle.octets.specs.Find.{find};
-ghost use Rattle.flows.specs.Table.{is_free, flow_place, removed, used_tags, flow_timeout, faded_flow, insert_flow, counted as countedBy, fresh_flow, fixed_flow, set_flow};
+ghost use Rattle.octets.specs.Find.{first};
+ghost use Rattle.flows.specs.Table.{is_free, is_flow, removed, used_tags, flow_timeout, faded_flow, insert_flow, counted as countedBy, fresh_flow, fixed_flow, set_flow};
 ghost use Rattle.state.specs.Stack.{Kept, Becomes, stack_of, flow_at, with_flow, with_stamp, with_flows};
 ghost use Rattle.stamp.specs.Checks.{check_of};
 ghost use Rattle.state.specs.Times.{flow_times};
 ghost use Rattle.flow_walks.specs.FlowWalks.{table_of, with_table, has_flow_word};
 
-
-use mctp::{Eid, Error, TagValue, AppCookie};
+use mctp::{AppCookie, Eid, Error, TagValue};
 use stamp::{Check, EventStamp};
 use state::Sizes;
 
-fn find_flow_word(state: &[u8], sizes: Sizes, w: u32) -> usize
+fn find_flow_word(state: &[u8], sizes: Sizes, w: u32) -> Option<usize>
     requires { Kept sizes state.now }
-    ensures { (result ≡ find (has_flow_word w) (stack_of sizes state.now).flows) × (result ≤ flow_count) }
+    ensures { result ≡ first (has_flow_word w) (stack_of sizes state.now).flows }
 {
-    let mut i = 0;
-    while i < config::FLOWS {
-        if state::flow_word_at(state, sizes, i) == w {
-            return i;
-        }
-        i += 1;
-    }
-    i
+    (0..config::FLOWS).find(|&i| state::flow_word_at(state, sizes, i) == w)
 }
 
-// The place of the flow of that peer and tag, or 64 where there is none.
-pub fn find_flow(state: &[u8], sizes: Sizes, peer: Eid, tag: TagValue) -> usize
+// The place of the flow of that peer and tag.
+pub fn find_flow(state: &[u8], sizes: Sizes, peer: Eid, tag: TagValue) -> Option<usize>
     requires { Kept sizes state.now }
-    ensures { (result ≡ flow_place peer tag (stack_of sizes state.now).flows) × (result ≤ flow_count) }
+    ensures { result ≡ first (is_flow peer tag) (stack_of sizes state.now).flows }
 {
     find_flow_word(
         state,
@@ -44,21 +36,12 @@ pub fn find_flow(state: &[u8], sizes: Sizes, peer: Eid, tag: TagValue) -> usize
     )
 }
 
-// The first place that holds no flow, or 64 where all hold one.
-fn find_free(state: &[u8], sizes: Sizes) -> usize
+// The first place that holds no flow.
+fn find_free(state: &[u8], sizes: Sizes) -> Option<usize>
     requires { Kept sizes state.now }
-    ensures { (result ≡ find is_free (stack_of sizes state.now).flows) × (result ≤ flow_count) }
+    ensures { result ≡ first is_free (stack_of sizes state.now).flows }
 {
-    let mut i = 0;
-    while i < config::FLOWS {
-        let f = state::flow_at(state, sizes, i);
-        if f.used {
-            i += 1;
-        } else {
-            return i;
-        }
-    }
-    i
+    (0..config::FLOWS).find(|&i| !state::flow_at(state, sizes, i).used)
 }
 
 // The used-tag byte of a peer.
@@ -66,12 +49,10 @@ pub fn used_tags(state: &[u8], sizes: Sizes, peer: Eid) -> u8
     requires { Kept sizes state.now }
     ensures { result ≡ used_tags peer (stack_of sizes state.now).flows }
 {
-    let mut used: u8 = 0;
-    let mut i = 0;
-    while i < config::FLOWS {
+    let mut used = 0;
+    for i in 0..config::FLOWS {
         let f = state::flow_at(state, sizes, i);
         used = f.mark(peer, used);
-        i += 1;
     }
     used
 }
@@ -81,8 +62,7 @@ pub fn remove_flow(state: &mut [u8], sizes: Sizes, peer: Eid, tag: TagValue)
     requires { Kept sizes state.old }
     ensures { Becomes sizes state.old state.new (with_flows (removed peer tag (stack_of sizes state.old).flows) (stack_of sizes state.old)) }
 {
-    let at = find_flow(state, sizes, peer, tag);
-    if at < config::FLOWS {
+    if let Some(at) = find_flow(state, sizes, peer, tag) {
         state::put_flow(state, sizes, at, flows::no_flow());
     }
 }
@@ -111,17 +91,22 @@ fn insert_flow(
     ensures { (result ≡ (insert_flow peer tag expires cookie (table_of (stack_of sizes state.old))).granted) × Becomes sizes state.old state.new (with_table (insert_flow peer tag expires cookie (table_of (stack_of sizes state.old))).table (stack_of sizes state.old)) }
 {
     let stamp = counted(state, sizes, expires);
-    let i = find_free(state, sizes);
-    if i < config::FLOWS {
-        let f = flows::new_flow(peer, tag, expires, cookie, stamp);
-        state::put_flow(state, sizes, i, f);
-        return Ok(tag);
-    }
-    Err(Error::TagUnavailable)
+    let Some(i) = find_free(state, sizes) else {
+        return Err(Error::TagUnavailable);
+    };
+    let f = flows::new_flow(peer, tag, expires, cookie, stamp);
+    state::put_flow(state, sizes, i, f);
+    Ok(tag)
 }
 
 // A flow under a fresh tag: the tag counter goes up even if no tag is free.
-fn fresh_flow(state: &mut [u8], sizes: Sizes, peer: Eid, expires: bool, cookie: Option<AppCookie>) -> Result<TagValue, Error>
+fn fresh_flow(
+    state: &mut [u8],
+    sizes: Sizes,
+    peer: Eid,
+    expires: bool,
+    cookie: Option<AppCookie>,
+) -> Result<TagValue, Error>
     requires { Kept sizes state.old }
     ensures { (result ≡ (fresh_flow peer expires cookie (table_of (stack_of sizes state.old))).granted) × Becomes sizes state.old state.new (with_table (fresh_flow peer expires cookie (table_of (stack_of sizes state.old))).table (stack_of sizes state.old)) }
 {
@@ -145,16 +130,15 @@ fn fixed_flow(
     requires { Kept sizes state.old × (tag.0 < 8) }
     ensures { (result ≡ (fixed_flow peer tag expires cookie (table_of (stack_of sizes state.old))).granted) × Becomes sizes state.old state.new (with_table (fixed_flow peer tag expires cookie (table_of (stack_of sizes state.old))).table (stack_of sizes state.old)) }
 {
-    let i = find_flow(state, sizes, peer, tag);
-    if i < config::FLOWS {
-        let f = state::flow_at(state, sizes, i);
-        let lasting = f.is_lasting();
-        if lasting {
-            return Ok(tag);
-        }
-        return Err(Error::BadArgument);
+    let Some(i) = find_flow(state, sizes, peer, tag) else {
+        return insert_flow(state, sizes, peer, tag, expires, cookie);
+    };
+    let f = state::flow_at(state, sizes, i);
+    let lasting = f.is_lasting();
+    if lasting {
+        return Ok(tag);
     }
-    insert_flow(state, sizes, peer, tag, expires, cookie)
+    Err(Error::BadArgument)
 }
 
 // Sets or checks the flow of a send under an owned tag.
@@ -187,8 +171,7 @@ fn expire_flow(state: &mut [u8], sizes: Sizes, i: usize, clock: u64, c: Check) -
 {
     let t = state::flow_at(state, sizes, i).check_expired(clock);
     let found = c.noted(t);
-    let expired = t.is_expired();
-    if expired {
+    if t.is_expired() {
         state::put_flow(state, sizes, i, flows::no_flow());
     }
     found
@@ -200,10 +183,8 @@ pub fn expire_flows(state: &mut [u8], sizes: Sizes, clock: u64, c: Check) -> Che
     ensures { (result ≡ check_of (flow_times clock (stack_of sizes state.old)) c) × Becomes sizes state.old state.new (with_flows (map (faded_flow clock) (stack_of sizes state.old).flows) (stack_of sizes state.old)) }
 {
     let mut found = c;
-    let mut i = 0;
-    while i < config::FLOWS {
+    for i in 0..config::FLOWS {
         found = expire_flow(state, sizes, i, clock, found);
-        i += 1;
     }
     found
 }

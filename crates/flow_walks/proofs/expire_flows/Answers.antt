@@ -1,5 +1,6 @@
 use Rattle.state.proofs.PartLoops.{timed_flows, check_start, check_next, check_done}
 use borrow.Author.Rules.{rules}
+use native.Mathlib.Omega.{arith}
 use Rattle.flow_walks.proofs.expire_flows.Goals as goal
 
 pub loop-i-init : goal.loop-i-init
@@ -10,7 +11,7 @@ expire_flow-found-requires c = (c.loop-i.invariant.walked.made.kept, search rule
 
 pub loop-i-preserved : goal.loop-i-preserved
 loop-i-preserved c =
-    check_next timed_flows _ _ _ _ _ _ _ c.loop-i.invariant c.expire_flow-found.new.state _ c.loop-i-test.true c.expire_flow-found.ensures
+    check_next timed_flows _ _ _ _ _ _ _ c.loop-i.invariant c.expire_flow-found.new.state _ (omega arith) c.expire_flow-found.ensures
 
 pub returns : goal.returns
-returns c = check_done timed_flows _ _ _ _ _ _ _ c.loop-i.invariant c.loop-i-test.false
+returns c = check_done timed_flows _ _ _ _ _ _ _ c.loop-i.invariant (omega arith)

@@ -6,4 +6,4 @@ use Rattle.flow_walks.proofs.find_flow.Goals as goal
 
 pub returns : goal.returns
 returns c =
-    (c.find_flow_word.ensures.0 ∙ word-place c.args.sizes c.args.state.now c.requires c.args.peer c.args.tag (omega arith) (omega arith), c.find_flow_word.ensures.1)
+    c.find_flow_word.ensures ∙ word-place c.args.sizes c.args.state.now c.requires c.args.peer c.args.tag (omega arith) (omega arith)
