@@ -14,7 +14,7 @@ use Rattle.octets.proofs.Finds.{find_hit}
 use Rattle.octets.proofs.Bools.{no_both}
 use Rattle.mctp.specs.declared.Header.{Header}
 use Rattle.mctp.specs.declared.Error.{Error}
-use Rattle.mctp.specs.declared.Error.TheVariants.{InvalidInput, NoSpace, PoolShort}
+use Rattle.mctp.specs.declared.Error.TheVariants.{Unreachable, InvalidInput, NoSpace, PoolShort}
 use Rattle.mctp.specs.Terms.{same_key}
 use Rattle.mctp.specs.Header.{header_of}
 use Rattle.stamp.specs.declared.EventStamp.{EventStamp}
@@ -26,7 +26,7 @@ use Rattle.slot.specs.declared.State.TheVariants.{Empty, Collecting, Done, Handl
 use Rattle.slot.specs.declared.Reassembler.{Reassembler}
 use Rattle.slot.specs.Slot.{blank_slot, is_empty, empty_state, collects, collects_in}
 use Rattle.slot.specs.Search.{slot_for}
-use Rattle.reassemble.specs.Enter.{gate, gate_empty, gate_reply, enter}
+use Rattle.reassemble.specs.Enter.{opened, gate, gate_empty, gate_reply, enter}
 use Rattle.state.specs.declared.Sizes.{Sizes}
 use Rattle.state.specs.Stack.{Stack, Becomes, stack_of, slot_at, ticked}
 use Rattle.state.proofs.StackLaws.{and_then}
@@ -62,12 +62,12 @@ module _ (z : Sizes) (r : Result (Option ReceiveHandle) Error) where
 -- a reply whose flow stands passes with the flow's cookie
 module _ (h : Header) (flows : List Flow) where
   pub reply_stands : (cookie : Option AppCookie) → flow_place h.key.source h.key.tag flows < length flows → cookie ≡ flow_cookie h.key.source h.key.tag flows
-      → gate_reply h true cookie ≡ gate_reply h (standing h.key.source h.key.tag flows) (flow_cookie h.key.source h.key.tag flows)
+      → Ok (opened h cookie) ≡ gate_reply h (standing h.key.source h.key.tag flows) (flow_cookie h.key.source h.key.tag flows)
   unfolding gate_reply pick
   reply_stands cookie l e = rw (lt-ltb (flow_place h.key.source h.key.tag flows) (length flows) l, e)
 
   pub reply_lost : length flows ≤ flow_place h.key.source h.key.tag flows
-      → gate_reply h false None ≡ gate_reply h (standing h.key.source h.key.tag flows) (flow_cookie h.key.source h.key.tag flows)
+      → Err Unreachable ≡ gate_reply h (standing h.key.source h.key.tag flows) (flow_cookie h.key.source h.key.tag flows)
   unfolding gate_reply pick
   reply_lost l = rw (le-ltb (flow_place h.key.source h.key.tag flows) (length flows) l)
 

@@ -15,14 +15,19 @@ ghost use Rattle.state.specs.Slot.{SlotOk};
 ghost use Rattle.receiving.specs.Receive.{receive_of, receive_by, receive_at, land, settled, Makes};
 
 use mctp::{Error, Header, Key};
-use reassemble::{Intake};
+use reassemble::Intake;
 use slot::{Reassembler, ReceiveHandle};
 use state::Sizes;
 
 mod middle; // middle.rt: the short way of a middle packet
 
 // Receives a packet.
-pub fn receive(state: &mut [u8], sizes: Sizes, pool: &mut [u8], packet: &[u8]) -> Result<Option<ReceiveHandle>, Error>
+pub fn receive(
+    state: &mut [u8],
+    sizes: Sizes,
+    pool: &mut [u8],
+    packet: &[u8],
+) -> Result<Option<ReceiveHandle>, Error>
     requires { Kept sizes state.old }
     ensures { Makes sizes (receive_of sizes.body (stack_of sizes state.old) (length pool.old) packet.now) result state.old state.new pool.old pool.new }
 {
@@ -36,16 +41,19 @@ pub fn receive(state: &mut [u8], sizes: Sizes, pool: &mut [u8], packet: &[u8]) -
 }
 
 // A bad header matches no collecting slot: it is refused at an empty slot, or for want of one.
-fn receive_bad(state: &mut [u8], sizes: Sizes, packet: &[u8]) -> Result<Option<ReceiveHandle>, Error>
+fn receive_bad(
+    state: &mut [u8],
+    sizes: Sizes,
+    packet: &[u8],
+) -> Result<Option<ReceiveHandle>, Error>
     requires { Kept sizes state.old }
     ensures { (result ≡ (receive_by sizes.body (stack_of sizes state.old) packet.now None).said) × Becomes sizes state.old state.new (receive_by sizes.body (stack_of sizes state.old) packet.now None).stack }
 {
-    let empty = slot_walks::find_empty(state, sizes);
-    if empty < sizes.slots {
-        state::tick(state, sizes);
-        return Err(Error::InvalidInput);
-    }
-    Err(Error::NoSpace)
+    let Some(_) = slot_walks::find_empty(state, sizes) else {
+        return Err(Error::NoSpace); // no slot is empty, and no event is counted
+    };
+    state::tick(state, sizes);
+    Err(Error::InvalidInput)
 }
 
 fn receive_good(
@@ -58,15 +66,13 @@ fn receive_good(
     requires { Kept sizes state.old × (h.key.tag.0 < 8) × (h.seq < 4) × (4 ≤ length packet.now) × (sizes.body * sizes.slots ≤ length pool.old) }
     ensures { Makes sizes (receive_by sizes.body (stack_of sizes state.old) packet.now (Some h)) result state.old state.new pool.old pool.new }
 {
-    let i = slot_walks::find_collecting(state, sizes, h.key);
-    if i < sizes.slots {
+    if let Some(i) = slot_walks::find_collecting(state, sizes, h.key) {
         return receive_collecting(state, sizes, pool, packet, h, i);
     }
-    let j = slot_walks::find_empty(state, sizes);
-    if j < sizes.slots {
-        return receive_opening(state, sizes, pool, packet, h, j);
-    }
-    Err(Error::NoSpace)
+    let Some(j) = slot_walks::find_empty(state, sizes) else {
+        return Err(Error::NoSpace);
+    };
+    receive_opening(state, sizes, pool, packet, h, j)
 }
 
 // The packet comes to a slot that collects its key; a middle packet takes the shortcut.
@@ -83,8 +89,7 @@ fn receive_collecting(
 {
     let p = state::progress_at(state, sizes, i);
     let n = packet.len() - 4;
-    let short = middle::is_middle(h, p, n, sizes.body);
-    if short {
+    if middle::is_middle(h, p, n, sizes.body) {
         return middle::append_middle(state, sizes, pool, packet, h, i, p);
     }
     let s = state::slot_at(state, sizes, i);
@@ -105,10 +110,8 @@ fn receive_opening(
 {
     let gate = gate_empty(state, sizes, h);
     state::tick(state, sizes);
-    match gate {
-        Err(err) => Err(err),
-        Ok(s) => feed(state, sizes, pool, packet, h, i, s),
-    }
+    let s = gate?;
+    feed(state, sizes, pool, packet, h, i, s)
 }
 
 fn gate_empty(state: &[u8], sizes: Sizes, h: Header) -> Result<Reassembler, Error>
@@ -116,13 +119,13 @@ fn gate_empty(state: &[u8], sizes: Sizes, h: Header) -> Result<Reassembler, Erro
     ensures { result ≡ gate_empty (stack_of sizes state.now).head.own_eid h (standing h.key.source h.key.tag (stack_of sizes state.now).flows) (flow_cookie h.key.source h.key.tag (stack_of sizes state.now).flows) }
 {
     let own = state::own_eid(state, sizes);
-    if reassemble::opens(own, h) {
-        if h.key.owner {
-            return Ok(reassemble::open(h, None));
-        }
-        return gate_by_flow(state, sizes, h);
+    if !reassemble::opens(own, h) {
+        return Err(Error::InvalidInput);
     }
-    Err(Error::InvalidInput)
+    if h.key.owner {
+        return Ok(reassemble::open(h, None));
+    }
+    gate_by_flow(state, sizes, h)
 }
 
 // Rule 41: a reply passes only where its flow stands.
@@ -130,15 +133,11 @@ fn gate_by_flow(state: &[u8], sizes: Sizes, h: Header) -> Result<Reassembler, Er
     requires { Kept sizes state.now }
     ensures { result ≡ gate_reply h (standing h.key.source h.key.tag (stack_of sizes state.now).flows) (flow_cookie h.key.source h.key.tag (stack_of sizes state.now).flows) }
 {
-    let source = h.key.source;
-    let tag = h.key.tag;
-    let i = flow_walks::find_flow(state, sizes, source, tag);
-    if i < config::FLOWS {
-        let f = state::flow_at(state, sizes, i);
-        let cookie = f.cookie;
-        return reassemble::gate_reply(h, true, cookie);
-    }
-    reassemble::gate_reply(h, false, None)
+    let Some(i) = flow_walks::find_flow(state, sizes, h.key.source, h.key.tag) else {
+        return Err(Error::Unreachable);
+    };
+    let f = state::flow_at(state, sizes, i);
+    Ok(reassemble::open(h, f.cookie))
 }
 
 // Rules 44 to 51: one event is counted, and the packet enters slot i, which is s.
@@ -202,7 +201,13 @@ fn close(state: &mut [u8], sizes: Sizes, key: Key)
 }
 
 // What is said of a packet that slot i takes, and with a whole message its handle's number and its flow's end.
-pub fn conclude(state: &mut [u8], sizes: Sizes, key: Key, i: usize, whole: bool) -> Result<Option<ReceiveHandle>, Error>
+pub fn conclude(
+    state: &mut [u8],
+    sizes: Sizes,
+    key: Key,
+    i: usize,
+    whole: bool,
+) -> Result<Option<ReceiveHandle>, Error>
     requires { Kept sizes state.old }
     ensures { (result ≡ said_of whole i (next_issue (stack_of sizes state.old).head.issue)) × Becomes sizes state.old state.new (concluded whole key (stack_of sizes state.old)) }
 {

@@ -6,9 +6,8 @@ ghost use Rattle.state.specs.Slot.{progress_of};
 ghost use Rattle.state.specs.Stack.{Kept, stack_of, slot_at};
 ghost use Rattle.receiving.specs.Receive.{is_middle, land, Makes};
 
-
+use mctp::{Error, Header};
 use slot::ReceiveHandle;
-use mctp::{Header, Error};
 use state::{Progress, Sizes};
 
 // A middle packet of n bytes: neither first nor last, in turn, with room.

@@ -20,18 +20,18 @@ own_eid-own-requires c = c.requires
 pub returns-then-h : goal.returns-then-h
 unfolding gate_empty
 returns-then-h c =
-    let e = sym (asked c.own_eid-own.result (stack_of c.args.sizes c.args.state.now).head.own_eid c.args.h c.opens.ensures c.own_eid-own.ensures) ∙ c.if-opens.true in
+    let e = sym (asked c.own_eid-own.result (stack_of c.args.sizes c.args.state.now).head.own_eid c.args.h c.opens.ensures c.own_eid-own.ensures) ∙ c.if-not-opens.false in
     ap (λ (x : Reassembler). Ok x) c.«open».ensures ∙ sym (pick_true _ _ _ e ∙ pick_true _ _ _ c.if-h.true)
 
 pub gate_by_flow-requires : goal.gate_by_flow-requires
 gate_by_flow-requires c = c.requires
 
-pub returns-then-opens : goal.returns-then-opens
-unfolding gate_empty
-returns-then-opens c =
-    let e = sym (asked c.own_eid-own.result (stack_of c.args.sizes c.args.state.now).head.own_eid c.args.h c.opens.ensures c.own_eid-own.ensures) ∙ c.if-opens.true in
-    c.gate_by_flow.ensures ∙ sym (pick_true _ _ _ e ∙ pick_false _ _ _ c.if-h.false)
-
 pub returns : goal.returns
 unfolding gate_empty
-returns c = sym (pick_false _ _ _ (sym (asked c.own_eid-own.result (stack_of c.args.sizes c.args.state.now).head.own_eid c.args.h c.opens.ensures c.own_eid-own.ensures) ∙ c.if-opens.false))
+returns c =
+    let e = sym (asked c.own_eid-own.result (stack_of c.args.sizes c.args.state.now).head.own_eid c.args.h c.opens.ensures c.own_eid-own.ensures) ∙ c.if-not-opens.false in
+    c.gate_by_flow.ensures ∙ sym (pick_true _ _ _ e ∙ pick_false _ _ _ c.if-h.false)
+
+pub returns-then-not-opens : goal.returns-then-not-opens
+unfolding gate_empty
+returns-then-not-opens c = sym (pick_false _ _ _ (sym (asked c.own_eid-own.result (stack_of c.args.sizes c.args.state.now).head.own_eid c.args.h c.opens.ensures c.own_eid-own.ensures) ∙ c.if-not-opens.true))

@@ -10,15 +10,15 @@ use Rattle.receiving.proofs.receive_collecting.Goals as goal
 pub progress_at-p-requires : goal.progress_at-p-requires
 progress_at-p-requires c = c.requires.0
 
-pub is_middle-short-requires : goal.is_middle-short-requires
-is_middle-short-requires c = c.progress_at-p.ensures.1.len
+pub is_middle-requires : goal.is_middle-requires
+is_middle-requires c = c.progress_at-p.ensures.1.len
 
 pub append_middle-requires : goal.append_middle-requires
 append_middle-requires c =
-    (c.requires.0, c.requires.3, c.requires.4, c.requires.5, c.progress_at-p.ensures.0, c.progress_at-p.ensures.1.len, sym c.is_middle-short.ensures ∙ c.if-short.true)
+    (c.requires.0, c.requires.3, c.requires.4, c.requires.5, c.progress_at-p.ensures.0, c.progress_at-p.ensures.1.len, sym c.is_middle.ensures ∙ c.if-is_middle.true)
 
-pub returns-then-short : goal.returns-then-short
-returns-then-short c = c.append_middle.ensures
+pub returns-then-is_middle : goal.returns-then-is_middle
+returns-then-is_middle c = c.append_middle.ensures
 
 pub slot_at-s-requires : goal.slot_at-s-requires
 slot_at-s-requires c = c.requires.0
