@@ -1,5 +1,6 @@
 -- `receive_opening` counts the event whatever the gate says; the slot that passes has its ranges, and the packet enters it.
 use native.Mathlib.Omega.{arith}
+use Rattle.std.proofs.lemmas.Result.{err_from_is_err_and}
 use mathlib.Core.Path.{sym, ◌∙◌}
 use Rattle.std.specs.Prelude.{Ok}
 use Rattle.mctp.specs.Header.{HeaderOk}
@@ -23,8 +24,10 @@ feed-requires c =
 pub returns-in_err-s : goal.returns-in_err-s
 returns-in_err-s c =
     let st = stack_of c.args.sizes c.args.state.now in
-    makes_as c.args.sizes _ (sym (at_empty c.args.sizes.body st c.args.packet.now c.args.i c.args.h c.gate_empty-gate.result c.requires.6 c.gate_empty-gate.ensures ∙ shut_at c.args.sizes.body (ticked st) c.args.packet.now c.args.i c.args.h c.gate_empty-gate.result c.in_err-s.field-0 c.in_err-s.was))
-    (refusal c.args.sizes c.in_err-s.field-0 c.args.pool.now (ticked st) c.tick.ensures.1)
+    let p = err_from_is_err_and c.from_residual.result c.from_residual.ensures.1 in
+    rw (p.1, p.2)
+    (makes_as c.args.sizes _ (sym (at_empty c.args.sizes.body st c.args.packet.now c.args.i c.args.h c.gate_empty-gate.result c.requires.6 c.gate_empty-gate.ensures ∙ shut_at c.args.sizes.body (ticked st) c.args.packet.now c.args.i c.args.h c.gate_empty-gate.result c.in_err-s.field-0.0 c.in_err-s.was))
+    (refusal c.args.sizes c.in_err-s.field-0.0 c.args.pool.now (ticked st) c.tick.ensures.1))
 
 pub returns : goal.returns
 returns c =
