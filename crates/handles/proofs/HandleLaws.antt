@@ -1,13 +1,16 @@
 -- A good handle belongs to a slot, and the calls that take a handle store that slot or nothing.
 use Prim.Native.Nat.{ℕ, ◌^◌, ◌≤◌, ◌<◌}
 use native.Mathlib.Omega.{arith}
-use mathlib.Core.Path.{◌≡◌, refl}
+use mathlib.Core.Path.{◌≡◌, refl, sym, ap, subst, ◌∙◌}
 use mathlib.Core.Bool.{Bool, true, false}
 use mathlib.Core.List.{List}
 use lib.Dec.{ltb}
 use lib.ListN.{length}
 use borrow.Author.Tests.{ltb-true, lt-ltb, le-ltb}
-use Rattle.std.specs.Prelude.{Err, None, Ok, Option, Result, Some}
+use Rattle.std.specs.Prelude.{Err, None, Ok, Option, Result, Some, IfSome, unwrap_or}
+use Rattle.octets.proofs.Finds.{placed_below, placed_back}
+use Rattle.slot.specs.Search.{earliest, earliest_place}
+use Rattle.slot.proofs.Searches.{earliest_bound}
 use Rattle.octets.specs.Pick.{pick}
 use Rattle.mctp.specs.declared.Error.TheVariants.{BadArgument}
 use Rattle.mctp.specs.Terms.{cookie_value}
@@ -97,3 +100,15 @@ module _ (z : Sizes) (b : List ℕ) (i : ℕ) where
   pub not_taken : z.slots ≤ i → Kept z b → Taken None b
   unfolding take_of pick
   not_taken h k = rw (slots_length z b, le-ltb i z.slots h) (refl, stays z b k)
+
+-- the slot that a search for the earliest finds is one of the stack, and the definition takes the same
+module _ (z : Sizes) (b : List ℕ) (f : Reassembler → Bool) where
+  pub earliest_slot : IfSome (earliest_place f (stack_of z b).slots) (λ i. i < z.slots)
+  earliest_slot =
+      subst (λ (n : ℕ). IfSome (earliest_place f (stack_of z b).slots) (λ i. i < n)) (slots_length z b)
+      (placed_below (length (stack_of z b).slots) (earliest f (stack_of z b).slots))
+
+  pub earliest_back : unwrap_or (earliest_place f (stack_of z b).slots) z.slots ≡ earliest f (stack_of z b).slots
+  earliest_back =
+      let e = placed_back (length (stack_of z b).slots) (earliest f (stack_of z b).slots) (earliest_bound f (stack_of z b).slots) in
+      ap (λ (n : ℕ). unwrap_or (earliest_place f (stack_of z b).slots) n) (sym (slots_length z b)) ∙ e

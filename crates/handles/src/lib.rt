@@ -4,12 +4,12 @@
 
 #![tactic(auto)]
 
-ghost use Rattle.std.specs.Prelude.{◌≡◌, length};
+ghost use Rattle.std.specs.Prelude.{◌≡◌, ◌<◌, length, IfSome, unwrap_or};
 ghost use Rattle.state.specs.Slot.{SlotOk};
 ghost use Rattle.state.specs.Stack.{Kept, Becomes, stack_of};
 ghost use Rattle.handles.specs.Handles.{is_good, handled, finish_of, return_of, set_cookie_of, fetch_of, take_of, by_source_of, by_cookie_of};
 
-use mctp::{Eid, Error, Key, MsgIC, MsgType, Tag, AppCookie};
+use mctp::{AppCookie, Eid, Error, Key, MsgIC, MsgType, Tag};
 use slot::{Reassembler, ReceiveHandle};
 use state::Sizes;
 
@@ -38,7 +38,12 @@ fn is_good(state: &[u8], sizes: Sizes, handle: ReceiveHandle) -> bool
 }
 
 // The message under a handle; nothing changes.
-pub fn fetch_message(state: &[u8], sizes: Sizes, pool: &[u8], handle: ReceiveHandle) -> Result<Message, Error>
+pub fn fetch_message(
+    state: &[u8],
+    sizes: Sizes,
+    pool: &[u8],
+    handle: ReceiveHandle,
+) -> Result<Message, Error>
     requires { Kept sizes state.now }
     ensures { result ≡ fetch_of sizes.body handle (stack_of sizes state.now) (length pool.now) }
 {
@@ -66,7 +71,12 @@ pub fn fetch_message(state: &[u8], sizes: Sizes, pool: &[u8], handle: ReceiveHan
 }
 
 // The slot of a good handle becomes `s`; any other handle is BadArgument.
-fn put_under(state: &mut [u8], sizes: Sizes, handle: ReceiveHandle, s: Reassembler) -> Result<(), Error>
+fn put_under(
+    state: &mut [u8],
+    sizes: Sizes,
+    handle: ReceiveHandle,
+    s: Reassembler,
+) -> Result<(), Error>
     requires { Kept sizes state.old × SlotOk sizes.body s }
     ensures { (result ≡ (handled (λ _. s) handle (stack_of sizes state.old)).said) × Becomes sizes state.old state.new (handled (λ _. s) handle (stack_of sizes state.old)).stack }
 {
@@ -98,7 +108,12 @@ pub fn return_handle(state: &mut [u8], sizes: Sizes, handle: ReceiveHandle) -> R
 }
 
 // Gives the slot of the handle another cookie, or none.
-pub fn set_cookie(state: &mut [u8], sizes: Sizes, handle: ReceiveHandle, cookie: Option<AppCookie>) -> Result<(), Error>
+pub fn set_cookie(
+    state: &mut [u8],
+    sizes: Sizes,
+    handle: ReceiveHandle,
+    cookie: Option<AppCookie>,
+) -> Result<(), Error>
     requires { Kept sizes state.old }
     ensures { (result ≡ (set_cookie_of handle cookie (stack_of sizes state.old)).said) × Becomes sizes state.old state.new (set_cookie_of handle cookie (stack_of sizes state.old)).stack }
 {
@@ -107,22 +122,20 @@ pub fn set_cookie(state: &mut [u8], sizes: Sizes, handle: ReceiveHandle, cookie:
     put_under(state, sizes, handle, s.set_cookie(cookie))
 }
 
-// Gives out the handle of slot i, where there is a slot i.
-fn take(state: &mut [u8], sizes: Sizes, i: usize) -> Option<ReceiveHandle>
-    requires { Kept sizes state.old }
-    ensures { (result ≡ (take_of i (stack_of sizes state.old)).said) × Becomes sizes state.old state.new (take_of i (stack_of sizes state.old)).stack }
+// Gives out the handle of the slot that is found, where one is.
+fn take(state: &mut [u8], sizes: Sizes, found: Option<usize>) -> Option<ReceiveHandle>
+    requires kept { Kept sizes state.old }
+    requires slot { IfSome found (λ i. i < sizes.slots) }
+    ensures { (result ≡ (take_of (unwrap_or found sizes.slots) (stack_of sizes state.old)).said) × Becomes sizes state.old state.new (take_of (unwrap_or found sizes.slots) (stack_of sizes state.old)).stack }
 {
-    if i < sizes.slots {
-        let issue = slot::next_issue(state::issue_at(state, sizes));
-        let s = state::slot_at(state, sizes, i);
-        state::put_slot(state, sizes, i, s.take_handle(issue));
-        state::put_issue(state, sizes, issue);
-        return Some(ReceiveHandle {
-            index: i,
-            issue: issue,
-        });
-    }
-    None
+    let Some(i) = found else {
+        return None;
+    };
+    let issue = slot::next_issue(state::issue_at(state, sizes));
+    let s = state::slot_at(state, sizes, i);
+    state::put_slot(state, sizes, i, s.take_handle(issue));
+    state::put_issue(state, sizes, issue);
+    Some(ReceiveHandle { index: i, issue })
 }
 
 // The earliest message kept from that source under that tag.
@@ -134,15 +147,19 @@ pub fn get_deferred(state: &mut [u8], sizes: Sizes, source: Eid, tag: Tag) -> Op
     if 7 < t.0 {
         return None;
     }
-    let i = slot_walks::earliest_from(state, sizes, source, tag.is_owner(), t);
-    take(state, sizes, i)
+    let found = slot_walks::earliest_from(state, sizes, source, tag.is_owner(), t);
+    take(state, sizes, found)
 }
 
 // The earliest message kept whose cookie is one of the list.
-pub fn get_deferred_bycookie(state: &mut [u8], sizes: Sizes, cookies: &[u64]) -> Option<ReceiveHandle>
+pub fn get_deferred_bycookie(
+    state: &mut [u8],
+    sizes: Sizes,
+    cookies: &[u64],
+) -> Option<ReceiveHandle>
     requires { Kept sizes state.old }
     ensures { (result ≡ (by_cookie_of cookies.now (stack_of sizes state.old)).said) × Becomes sizes state.old state.new (by_cookie_of cookies.now (stack_of sizes state.old)).stack }
 {
-    let i = slot_walks::earliest_listed(state, sizes, cookies);
-    take(state, sizes, i)
+    let found = slot_walks::earliest_listed(state, sizes, cookies);
+    take(state, sizes, found)
 }

@@ -115,12 +115,10 @@ fn flows_hold(state: &[u8]) -> bool
     requires { slots_at ≤ length state.now }
     ensures { Tells (Regular flow_codec flow_count flows_at state.now) result }
 {
-    let mut i = 0;
-    while i < config::FLOWS {
+    for i in 0..config::FLOWS {
         if !flow_holds(state, FLOWS_AT + FLOW_WIDTH * i) {
             return false;
         }
-        i += 1;
     }
     true
 }
@@ -129,12 +127,10 @@ fn slots_hold(state: &[u8], slots: usize, body: usize) -> bool
     requires { slots_at + slot_width * slots ≤ length state.now }
     ensures { Tells (Regular (slot_codec body) slots slots_at state.now) result }
 {
-    let mut i = 0;
-    while i < slots {
+    for i in 0..slots {
         if !slot_holds(state, SLOTS_AT + SLOT_WIDTH * i, body) {
             return false;
         }
-        i += 1;
     }
     true
 }

@@ -42,6 +42,16 @@ none_placed size n =
     (λ _ e. absurd (nothing (sym e)))
     (λ f _. ltb-false n size f)
 
+-- the place is below the size, and is read back where it is at most that
+pub placed_below : (size n : ℕ) → IfSome (placed size n) (λ i. i < size)
+unfolding placed
+placed_below size n = pick_cases (λ (o : Option ℕ). IfSome o (λ i. i < size)) (λ t. ltb-true n size t) (λ _. tt)
+
+pub placed_back : (size n : ℕ) → n ≤ size → unwrap_or (placed size n) size ≡ n
+unfolding placed
+placed_back size n m =
+    pick_cases (λ (o : Option ℕ). unwrap_or o size ≡ n) (λ _. refl) (λ f. let h = ltb-false n size f in omega arith)
+
 -- a place below the size, or the size itself, is read back from the option
 pub is_placed : (size n : ℕ) (o : Option ℕ) → IfSome o (λ j. j < size) → unwrap_or o size ≡ n → o ≡ placed size n
 is_placed size n None h e = placed_none size n (omega (arith, e))

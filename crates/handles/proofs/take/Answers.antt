@@ -1,6 +1,7 @@
 -- `take` stores the slot and then the count (`taken`), or nothing where there is no such slot.
 use mathlib.Core.Path.{ap, ◌∙◌}
 use borrow.Author.Rules.{rules}
+use native.Mathlib.Omega.{arith}
 use Rattle.slot.specs.Slot.{with_state}
 use Rattle.slot.specs.declared.Reassembler.{Reassembler}
 use Rattle.slot.specs.declared.State.TheVariants.{HandleOut}
@@ -10,14 +11,14 @@ use Rattle.handles.proofs.take.Goals as goal
 
 pub put_slot-requires : goal.put_slot-requires
 put_slot-requires c =
-    (c.requires, rw c.take_handle.ensures (with_state_ok c.args.sizes.body c.slot_at-s.result c.slot_at-s.ensures.1 (HandleOut c.next_issue-issue.result) (search rules)))
+    (c.requires.kept, rw c.take_handle.ensures (with_state_ok c.args.sizes.body c.slot_at-s.result c.slot_at-s.ensures.1 (HandleOut c.next_issue-issue.result) (search rules)))
 
-pub returns-then-i-sizes : goal.returns-then-i-sizes
-returns-then-i-sizes c =
-    let e = c.next_issue-issue.ensures ∙ ap next_issue c.issue_at.ensures in
-    let f = c.take_handle.ensures ∙ ap (λ (t : Reassembler). with_state (HandleOut c.next_issue-issue.result) t) c.slot_at-s.ensures.0 in
-    taken c.args.sizes c.args.state.now c.args.i c.next_issue-issue.result c.if-i-sizes.true e (rw f at c.put_slot.ensures) c.put_issue.ensures
+pub returns-in_default : goal.returns-in_default
+returns-in_default c = rw c.in_default.is (not_taken c.args.sizes c.args.state.now c.args.sizes.slots (omega arith) c.requires.kept)
 
 pub returns : goal.returns
 returns c =
-    not_taken c.args.sizes c.args.state.now c.args.i c.if-i-sizes.false c.requires
+    let e = c.next_issue-issue.ensures ∙ ap next_issue c.issue_at.ensures in
+    let f = c.take_handle.ensures ∙ ap (λ (t : Reassembler). with_state (HandleOut c.next_issue-issue.result) t) c.slot_at-s.ensures.0 in
+    rw c.in-Some.is
+    (taken c.args.sizes c.args.state.now c.in-Some.i c.next_issue-issue.result (rw c.in-Some.is at c.requires.slot) e (rw f at c.put_slot.ensures) c.put_issue.ensures)

@@ -1,5 +1,5 @@
 -- So far the first i flow places are regular; one that is not makes the answer no (`blocks_not`).
-use Prim.Native.Nat.{◌-◌, ◌≤◌}
+use Prim.Native.Nat.{◌≤◌}
 use Rattle.config.specs.Config.{flow_count}
 use Rattle.octets.specs.Region.{Regular}
 use Rattle.flows.specs.Codec.{flow_codec}
@@ -8,6 +8,3 @@ use Rattle.kept.proofs.flows_hold.Given as goal
 
 abbrev pub invariant-loop-i : goal.invariant-loop-i
 invariant-loop-i l = (l.i ≤ flow_count) × Regular flow_codec l.i flows_at l.state
-
-abbrev pub decreases-loop-i : goal.decreases-loop-i
-decreases-loop-i l = flow_count - l.i
