@@ -11,9 +11,9 @@ returns-then-n-lt1 c = let z = c.args in front_all z.src.now z.dst.now 0 (front_
 
 pub returns-then-n-ge4 : goal.returns-then-n-ge4
 returns-then-n-ge4 c =
-    let g = c.shared_slice_known-1.given in
-    both_ends _ _ 4 (moved _ _ 0 4 c.load4-lo.ensures c.store4.ensures (omega arith) g)
-    (moved _ _ _ 4 c.load4-hi.ensures c.store4-then-n-ge4.ensures (omega arith) g) (omega arith) (omega arith)
+    let g = c.type_inv.src in
+    both_ends _ _ 4 (moved _ _ 0 4 c.load-lo.ensures c.store.ensures (omega arith) g)
+    (moved _ _ _ 4 c.load-hi.ensures c.store-then-n-ge4.ensures (omega arith) g) (omega arith) (omega arith)
 
 pub returns-then-n-lt2 : goal.returns-then-n-lt2
 returns-then-n-lt2 c =

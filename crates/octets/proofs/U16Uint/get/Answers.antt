@@ -1,7 +1,7 @@
--- `get8` joins its two halves: two fields side by side are one (`get_pair`); past the end there is nothing to read.
+-- The `get` of u16 joins its two halves: two fields side by side are one (`get_pair`); past the end there is nothing to read.
 use borrow.Author.Rules.{rules}
 use Rattle.octets.proofs.Number.{get_pair, get_past, top}
-use Rattle.octets.proofs.get8.Goals as goal
+use Rattle.octets.proofs.U16Uint.get.Goals as goal
 
 pub returns-then-b-at : goal.returns-then-b-at
 returns-then-b-at c = search (rules, get_past)
