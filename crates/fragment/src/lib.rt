@@ -10,7 +10,7 @@ ghost use Rattle.mctp.specs.Header.{header_bytes, lead};
 ghost use Rattle.fragment.specs.Step.{new_of, advanced_by, header_for, Writable, emit_of, plan_of, next_by, output_by, written_by, step_of};
 
 use mctp::{Cookie, Eid, Error, Header, Key, MsgIC, MsgType, Tag};
-use octets::{beyond, smaller};
+use octets::Uint;
 
 #[derive(Clone, Copy)]
 pub struct Fragmenter {
@@ -75,7 +75,7 @@ fn write_first(out: &mut [u8], h: Header, kind: u8, payload: &[u8], used: usize,
     requires { (5 + n ≤ length out.old) × (used + n ≤ length payload.now) }
     ensures { out.new ≡ over 0 (header_bytes h ++ (kind ∷ part used n payload.now)) out.old }
 {
-    octets::put4(&mut out[0..4], 0, mctp::encode_header(h));
+    u32::put(&mut out[0..4], 0, mctp::encode_header(h));
     out[4] = kind;
     let end = used + n;
     copying::copy(&mut out[5..], &payload[used..end]);
@@ -86,7 +86,7 @@ fn write_later(out: &mut [u8], h: Header, payload: &[u8], used: usize, n: usize)
     requires { (4 + n ≤ length out.old) × (used + n ≤ length payload.now) }
     ensures { out.new ≡ over 0 (header_bytes h ++ part used n payload.now) out.old }
 {
-    octets::put4(&mut out[0..4], 0, mctp::encode_header(h));
+    u32::put(&mut out[0..4], 0, mctp::encode_header(h));
     let end = used + n;
     copying::copy(&mut out[4..], &payload[used..end]);
 }
@@ -249,7 +249,7 @@ impl Fragmenter {
     {
         let used = self.payload_used;
         let start = mctp::body_start(self.first);
-        let n = smaller(size - used, beyond(smaller(room, self.mtu), start));
+        let n = (size - used).min(room.min(self.mtu).saturating_sub(start));
         let eom = used + n == size;
         let header = self.header(eom);
         let next = self.advanced(n, eom);

@@ -52,7 +52,7 @@ fn mtu_for(mtu: SendMtu, own: usize) -> usize
 {
     match mtu {
         SendMtu::Own => own,
-        SendMtu::AtMost(n) => octets::smaller(own, n),
+        SendMtu::AtMost(n) => own.min(n),
     }
 }
 

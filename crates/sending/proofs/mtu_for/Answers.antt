@@ -2,4 +2,4 @@
 use Rattle.sending.proofs.mtu_for.Goals as goal
 
 pub returns-in-AtMost : goal.returns-in-AtMost
-returns-in-AtMost c = rw c.in-AtMost.is c.smaller.ensures
+returns-in-AtMost c = rw c.in-AtMost.is c.min.ensures
