@@ -178,10 +178,10 @@ pub fn read_flow(b: &[u8]) -> Flow
     let expiry = expiry_of(kind, clock, counter);
     Flow {
         used: used == 1,
-        peer: peer,
-        tag: tag,
-        cookie: cookie,
-        expiry: expiry,
+        peer,
+        tag,
+        cookie,
+        expiry,
     }
 }
 

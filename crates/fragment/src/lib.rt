@@ -255,9 +255,9 @@ impl Fragmenter {
         let next = self.advanced(n, eom);
         let kind = mctp::encode_type_ic(self.typ, self.ic);
         Cut {
-            next: next,
-            header: header,
-            kind: kind,
+            next,
+            header,
+            kind,
             from: used,
             len: n,
             total: start + n,

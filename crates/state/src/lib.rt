@@ -98,26 +98,17 @@ impl Head {
 pub fn read_head(b: &[u8]) -> Head
     ensures { result ≡ head_of b.now }
 {
-    let own = Eid(u8::get(b, 0));
-    let tag = u8::get(b, 1);
-    let seq = u8::get(b, 2);
-    let counter = u32::get(b, 4);
-    let clock = u64::get(b, 8);
-    let planned = u64::get(b, 16);
-    let issue = u64::get(b, 24);
-    let mtu = u64::get(b, 32);
-    let stamp = EventStamp {
-        clock: clock,
-        counter: counter,
-    };
     Head {
-        own_eid: own,
-        mtu: mtu as usize,
-        now: stamp,
-        next_timeout: planned,
-        next_tag: tag,
-        next_seq: seq,
-        issue: issue,
+        own_eid: Eid(u8::get(b, 0)),
+        next_tag: u8::get(b, 1),
+        next_seq: u8::get(b, 2),
+        now: EventStamp {
+            counter: u32::get(b, 4),
+            clock: u64::get(b, 8),
+        },
+        next_timeout: u64::get(b, 16),
+        issue: u64::get(b, 24),
+        mtu: u64::get(b, 32) as usize,
     }
 }
 
@@ -226,28 +217,21 @@ fn read_slot(b: &[u8]) -> Reassembler
     let state = state_from(u8::get(b, 0), u64::get(b, 32));
     let cookie = Cookie::of(u8::get(b, 12), u64::get(b, 24));
     let t = mctp::decode_type_ic(u8::get(b, 4));
-    let tag = TagValue(o % 8);
     let key = Key {
-        source: source,
-        dest: dest,
+        source,
+        dest,
         owner: o / 8 == 1,
-        tag: tag,
-    };
-    let typ = t.typ;
-    let ic = t.ic;
-    let stamp = EventStamp {
-        clock: clock,
-        counter: counter,
+        tag: TagValue(o % 8),
     };
     Reassembler {
-        state: state,
-        key: key,
-        typ: typ,
-        ic: ic,
+        state,
+        key,
+        typ: t.typ,
+        ic: t.ic,
         next_seq: seq,
         len: len as usize,
-        cookie: cookie,
-        stamp: stamp,
+        cookie,
+        stamp: EventStamp { clock, counter },
     }
 }
 
@@ -340,10 +324,7 @@ pub fn now_at(state: &[u8], sizes: Sizes) -> EventStamp
     let w = &state[0..HEAD_WIDTH];
     let counter = u32::get(w, 4);
     let clock = u64::get(w, 8);
-    EventStamp {
-        clock: clock,
-        counter: counter,
-    }
+    EventStamp { clock, counter }
 }
 
 // Stores the last event's counter; its clock stays.
@@ -456,7 +437,7 @@ pub fn progress_at(state: &[u8], sizes: Sizes, i: usize) -> Progress
     let seq = u8::get(w, 5);
     let len = u16::get(w, 6);
     Progress {
-        seq: seq,
+        seq,
         len: len as usize,
     }
 }
