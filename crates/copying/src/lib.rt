@@ -75,9 +75,10 @@ fn long(dst: &mut [u8], src: &[u8])
     ensures { dst.new ≡ src.now ++ drop (length src.now) dst.old }
 {
     let n = src.len();
-    for k in 0..(n - 1) / 32 {
-        let i = 32 * k;
+    let mut i = 0;
+    while 32 < n - i {
         pair16(dst, src, i, i + 16);
+        i += 32;
     }
     pair16(dst, src, n - 32, n - 16);
 }
