@@ -5,18 +5,6 @@ use Rattle.octets.specs.Bytes.{over}
 use Rattle.copying.proofs.Front.{moved}
 use Rattle.copying.proofs.pair8.Goals as goal
 
-pub load-lo-requires : goal.load-lo-requires
-load-lo-requires c = omega arith
-
-pub load-hi-requires : goal.load-hi-requires
-load-hi-requires c = omega arith
-
-pub store-requires : goal.store-requires
-store-requires c = omega arith
-
-pub store-requires-2 : goal.store-requires-2
-store-requires-2 c = omega arith
-
 pub returns : goal.returns
 returns c =
     let g = c.type_inv.src in

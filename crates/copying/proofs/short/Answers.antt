@@ -2,7 +2,7 @@
 use native.Mathlib.Omega.{arith}
 use mathlib.Core.Path.{refl}
 use Prim.Native.Nat.{◌+◌, ◌-◌}
-use lib.ListN.{length, length-set}
+use lib.ListN.{length}
 use Rattle.copying.proofs.Front.{moved, both_ends, front_all, front_byte, front_zero}
 use Rattle.copying.proofs.short.Goals as goal
 
@@ -21,12 +21,6 @@ returns-then-n-lt2 c =
     let s = z.src.now in
     let d = z.dst.now in
     front_all s d 1 (front_byte s d 0 0 (front_zero s d) refl (omega arith) (omega arith) (omega arith) (omega arith) (omega arith)) (omega arith)
-
-pub bounds-dst-n : goal.bounds-dst-n
-bounds-dst-n c = simp length-set (omega arith)
-
-pub bounds-dst-n-2 : goal.bounds-dst-n-2
-bounds-dst-n-2 c = simp length-set (omega arith)
 
 pub returns : goal.returns
 returns c =
