@@ -7,39 +7,23 @@
 ghost use Rattle.std.specs.Prelude.{◌≡◌, ◌++◌, ◌+◌, ◌≤◌, ◌<◌, length, drop};
 ghost use Rattle.octets.specs.Bytes.{le, field, part, over, lay};
 
-use octets::{get4, get8, put4, put8, smaller};
+use octets::Uint;
 
-// `load4` reads the 4 bytes of `src` from `i` on as a number, and `store4` writes such a number; `load8` and `store8` do the same with 8 bytes.
-fn load4(src: &[u8], i: usize) -> u32
-    requires { i + 4 ≤ length src.now }
-    ensures { result ≡ field i 4 src.now }
+// The number in the bytes of `src` from `i` on, and a number written to those of `dst`.
+fn load<T: Uint>(src: &[u8], i: usize) -> T
+    requires { i + T.WIDTH ≤ length src.now }
+    ensures { T.value result ≡ field i T.WIDTH src.now }
 {
-    let end = i + 4;
-    get4(&src[i..end], 0)
+    let end = i + T::WIDTH;
+    T::get(&src[i..end], 0)
 }
 
-fn store4(dst: &mut [u8], i: usize, x: u32)
-    requires { i + 4 ≤ length dst.old }
-    ensures { dst.new ≡ over i (le 4 x) dst.old }
+fn store<T: Uint>(dst: &mut [u8], i: usize, x: T)
+    requires { i + T.WIDTH ≤ length dst.old }
+    ensures { dst.new ≡ over i (le T.WIDTH (T.value x)) dst.old }
 {
-    let end = i + 4;
-    put4(&mut dst[i..end], 0, x);
-}
-
-fn load8(src: &[u8], i: usize) -> u64
-    requires { i + 8 ≤ length src.now }
-    ensures { result ≡ field i 8 src.now }
-{
-    let end = i + 8;
-    get8(&src[i..end], 0)
-}
-
-fn store8(dst: &mut [u8], i: usize, x: u64)
-    requires { i + 8 ≤ length dst.old }
-    ensures { dst.new ≡ over i (le 8 x) dst.old }
-{
-    let end = i + 8;
-    put8(&mut dst[i..end], 0, x);
+    let end = i + T::WIDTH;
+    T::put(&mut dst[i..end], 0, x);
 }
 
 // `pair8` copies 8 bytes of `src` from `i` on and 8 from `j` on to the same places of `dst`; `pair16` copies 16 and 16.
@@ -47,10 +31,10 @@ fn pair8(dst: &mut [u8], src: &[u8], i: usize, j: usize)
     requires { (i + 8 ≤ length src.now) × (j + 8 ≤ length src.now) × (length src.now ≤ length dst.old) }
     ensures { dst.new ≡ over j (part j 8 src.now) (over i (part i 8 src.now) dst.old) }
 {
-    let lo = load8(src, i);
-    let hi = load8(src, j);
-    store8(dst, i, lo);
-    store8(dst, j, hi);
+    let lo = load::<u64>(src, i);
+    let hi = load::<u64>(src, j);
+    store(dst, i, lo);
+    store(dst, j, hi);
 }
 
 fn pair16(dst: &mut [u8], src: &[u8], i: usize, j: usize)
@@ -70,10 +54,10 @@ fn short(dst: &mut [u8], src: &[u8])
         return;
     }
     if 4 <= n {
-        let lo = load4(src, 0);
-        let hi = load4(src, n - 4);
-        store4(dst, 0, lo);
-        store4(dst, n - 4, hi);
+        let lo = load::<u32>(src, 0);
+        let hi = load::<u32>(src, n - 4);
+        store(dst, 0, lo);
+        store(dst, n - 4, hi);
         return;
     }
     dst[0] = src[0];
@@ -123,6 +107,6 @@ fn whole(dst: &mut [u8], src: &[u8])
 pub fn copy(dst: &mut [u8], src: &[u8])
     ensures { dst.new ≡ lay 0 src.now dst.old }
 {
-    let n = smaller(src.len(), dst.len());
+    let n = src.len().min(dst.len());
     whole(dst, &src[0..n]);
 }

@@ -10,8 +10,8 @@ ghost use Rattle.flows.specs.Tags.{marked};
 ghost use Rattle.flows.specs.Table.{no_flow, lasts, new_flow, flow_timeout};
 ghost use Rattle.flows.specs.Codec.{expiry_no, expiry_stamp, expiry_of, flow_of, flow_bytes, flow_row, FlowOk};
 
-use mctp::{Eid, Error, TagValue, AppCookie};
-use octets::{get1, get4, get8, put1, put2, put8};
+use mctp::{AppCookie, Eid, Error, TagValue};
+use octets::Uint;
 use stamp::{EventStamp, Timeout};
 
 pub mod tags; // tags.rt: tags as bits of a byte, and the search for a free one
@@ -140,22 +140,22 @@ fn expiry_of(n: u8, clock: u64, counter: u32) -> Option<EventStamp>
 pub fn read_flow(b: &[u8]) -> Flow
     ensures { result ≡ flow_of b.now }
 {
-    let used = get1(b, 0);
-    let peer = Eid(get1(b, 1));
-    let tag = TagValue(get1(b, 2));
-    let has = get1(b, 4);
-    let kind = get1(b, 6);
-    let value = get8(b, 8);
-    let clock = get8(b, 16);
-    let counter = get4(b, 24);
+    let used = u8::get(b, 0);
+    let peer = Eid(u8::get(b, 1));
+    let tag = TagValue(u8::get(b, 2));
+    let has = u8::get(b, 4);
+    let kind = u8::get(b, 6);
+    let value = u64::get(b, 8);
+    let clock = u64::get(b, 16);
+    let counter = u32::get(b, 24);
     let cookie = mctp::cookie_of(has, value);
     let expiry = expiry_of(kind, clock, counter);
     Flow {
         used: used == 1,
-        peer: peer,
-        tag: tag,
-        cookie: cookie,
-        expiry: expiry,
+        peer,
+        tag,
+        cookie,
+        expiry,
     }
 }
 
@@ -172,14 +172,14 @@ fn write_fields(
 )
     ensures { b.new ≡ puts 0 (flow_row used peer tag has kind value clock counter) b.old }
 {
-    put1(b, 0, used);
-    put1(b, 1, peer);
-    put2(b, 2, tag);
-    put2(b, 4, has);
-    put2(b, 6, kind);
-    put8(b, 8, value);
-    put8(b, 16, clock);
-    put8(b, 24, counter as u64);
+    u8::put(b, 0, used);
+    u8::put(b, 1, peer);
+    u16::put(b, 2, tag);
+    u16::put(b, 4, has);
+    u16::put(b, 6, kind);
+    u64::put(b, 8, value);
+    u64::put(b, 16, clock);
+    u64::put(b, 24, counter as u64);
 }
 
 // Writes the flow's bytes over the front of `b`, as far as they fit.

@@ -9,8 +9,8 @@ ghost use Rattle.octets.specs.Bytes.{over, part};
 ghost use Rattle.mctp.specs.Header.{header_bytes, lead};
 ghost use Rattle.fragment.specs.Step.{new_of, advanced_by, header_for, Writable, emit_of, plan_of, next_by, output_by, written_by, step_of};
 
-use mctp::{Eid, Error, Header, Key, MsgIC, MsgType, Tag, AppCookie};
-use octets::{beyond, smaller};
+use mctp::{AppCookie, Eid, Error, Header, Key, MsgIC, MsgType, Tag};
+use octets::Uint;
 
 #[derive(Clone, Copy)]
 pub struct Fragmenter {
@@ -69,7 +69,7 @@ fn write_first(out: &mut [u8], h: Header, kind: u8, payload: &[u8], used: usize,
     requires { (5 + n ≤ length out.old) × (used + n ≤ length payload.now) }
     ensures { out.new ≡ over 0 (header_bytes h ++ (kind ∷ part used n payload.now)) out.old }
 {
-    octets::put4(&mut out[0..4], 0, mctp::encode_header(h));
+    u32::put(&mut out[0..4], 0, mctp::encode_header(h));
     out[4] = kind;
     let end = used + n;
     copying::copy(&mut out[5..], &payload[used..end]);
@@ -80,7 +80,7 @@ fn write_later(out: &mut [u8], h: Header, payload: &[u8], used: usize, n: usize)
     requires { (4 + n ≤ length out.old) × (used + n ≤ length payload.now) }
     ensures { out.new ≡ over 0 (header_bytes h ++ part used n payload.now) out.old }
 {
-    octets::put4(&mut out[0..4], 0, mctp::encode_header(h));
+    u32::put(&mut out[0..4], 0, mctp::encode_header(h));
     let end = used + n;
     copying::copy(&mut out[4..], &payload[used..end]);
 }
@@ -243,15 +243,15 @@ impl Fragmenter {
     {
         let used = self.payload_used;
         let start = mctp::body_start(self.first);
-        let n = smaller(size - used, beyond(smaller(room, self.mtu), start));
+        let n = (size - used).min(room.min(self.mtu).saturating_sub(start));
         let eom = used + n == size;
         let header = self.header(eom);
         let next = self.advanced(n, eom);
         let kind = mctp::encode_type_ic(self.typ, self.ic);
         Cut {
-            next: next,
-            header: header,
-            kind: kind,
+            next,
+            header,
+            kind,
             from: used,
             len: n,
             total: start + n,

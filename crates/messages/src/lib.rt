@@ -69,7 +69,7 @@ pub fn copy_body(pool: &[u8], facts: Message, out: &mut [u8]) -> usize
     ensures bytes { out.new ≡ over 0 (front_of facts pool.now (length out.old)) out.old }
 {
     let body = lend_body(pool, facts);
-    let n = octets::smaller(out.len(), body.len());
+    let n = out.len().min(body.len());
     copying::copy(out, body);
     n
 }

@@ -4,106 +4,117 @@
 
 #![tactic(auto)]
 
-ghost use Rattle.std.specs.Prelude.{◌≡◌, ◌-◌, min};
+ghost use Rattle.std.specs.Prelude.{◌≡◌, ℕ};
 ghost use Rattle.octets.specs.Bytes.{le, field, lay};
 
-pub fn get1(b: &[u8], at: usize) -> u8
-    ensures { result ≡ field at 1 b.now }
-{
-    if b.len() <= at {
-        return 0;
-    }
-    b[at]
+// An unsigned number, which lies in `WIDTH` bytes, the lowest first. A wide one is two of half its width, so that the compiled code has one move for it.
+pub trait Uint: Copy {
+    ghost WIDTH: { ℕ };
+
+    const WIDTH: usize;
+
+    ghost value: { Self → ℕ };
+
+    fn get(b: &[u8], at: usize) -> Self
+        ensures { value result ≡ field at WIDTH b.now };
+
+    fn put(b: &mut [u8], at: usize, x: Self)
+        ensures { b.new ≡ lay at (le WIDTH (value x)) b.old };
 }
 
-pub fn get2(b: &[u8], at: usize) -> u16
-    ensures { result ≡ field at 2 b.now }
-{
-    if b.len() <= at {
-        return 0;
+impl Uint for u8 {
+    ghost WIDTH = { 1 };
+
+    const WIDTH: usize = 1;
+
+    ghost value = { λ x. x };
+
+    fn get(b: &[u8], at: usize) -> u8 {
+        if b.len() <= at {
+            return 0;
+        }
+        b[at]
     }
-    let lo = get1(b, at);
-    let hi = get1(b, at + 1);
-    lo as u16 + hi as u16 * 256
+
+    fn put(b: &mut [u8], at: usize, x: u8) {
+        if b.len() <= at {
+            return;
+        }
+        b[at] = x;
+    }
 }
 
-pub fn get4(b: &[u8], at: usize) -> u32
-    ensures { result ≡ field at 4 b.now }
-{
-    if b.len() <= at {
-        return 0;
+impl Uint for u16 {
+    ghost WIDTH = { 2 };
+
+    const WIDTH: usize = 2;
+
+    ghost value = { λ x. x };
+
+    fn get(b: &[u8], at: usize) -> u16 {
+        if b.len() <= at {
+            return 0;
+        }
+        let lo = u8::get(b, at);
+        let hi = u8::get(b, at + 1);
+        lo as u16 + hi as u16 * 256
     }
-    let lo = get2(b, at);
-    let hi = get2(b, at + 2);
-    lo as u32 + hi as u32 * 65536
+
+    fn put(b: &mut [u8], at: usize, x: u16) {
+        if b.len() <= at {
+            return;
+        }
+        u8::put(b, at, (x % 256) as u8);
+        u8::put(b, at + 1, (x / 256) as u8);
+    }
 }
 
-pub fn get8(b: &[u8], at: usize) -> u64
-    ensures { result ≡ field at 8 b.now }
-{
-    if b.len() <= at {
-        return 0;
+impl Uint for u32 {
+    ghost WIDTH = { 4 };
+
+    const WIDTH: usize = 4;
+
+    ghost value = { λ x. x };
+
+    fn get(b: &[u8], at: usize) -> u32 {
+        if b.len() <= at {
+            return 0;
+        }
+        let lo = u16::get(b, at);
+        let hi = u16::get(b, at + 2);
+        lo as u32 + hi as u32 * 65536
     }
-    let lo = get4(b, at);
-    let hi = get4(b, at + 4);
-    lo as u64 + hi as u64 * 4294967296
+
+    fn put(b: &mut [u8], at: usize, x: u32) {
+        if b.len() <= at {
+            return;
+        }
+        u16::put(b, at, (x % 65536) as u16);
+        u16::put(b, at + 2, (x / 65536) as u16);
+    }
 }
 
-pub fn put1(b: &mut [u8], at: usize, x: u8)
-    ensures { b.new ≡ lay at (le 1 x) b.old }
-{
-    if b.len() <= at {
-        return;
-    }
-    b[at] = x;
-}
+impl Uint for u64 {
+    ghost WIDTH = { 8 };
 
-pub fn put2(b: &mut [u8], at: usize, x: u16)
-    ensures { b.new ≡ lay at (le 2 x) b.old }
-{
-    if b.len() <= at {
-        return;
-    }
-    put1(b, at, (x % 256) as u8);
-    put1(b, at + 1, (x / 256) as u8);
-}
+    const WIDTH: usize = 8;
 
-pub fn put4(b: &mut [u8], at: usize, x: u32)
-    ensures { b.new ≡ lay at (le 4 x) b.old }
-{
-    if b.len() <= at {
-        return;
-    }
-    put2(b, at, (x % 65536) as u16);
-    put2(b, at + 2, (x / 65536) as u16);
-}
+    ghost value = { λ x. x };
 
-pub fn put8(b: &mut [u8], at: usize, x: u64)
-    ensures { b.new ≡ lay at (le 8 x) b.old }
-{
-    if b.len() <= at {
-        return;
+    fn get(b: &[u8], at: usize) -> u64 {
+        if b.len() <= at {
+            return 0;
+        }
+        let lo = u32::get(b, at);
+        let hi = u32::get(b, at + 4);
+        lo as u64 + hi as u64 * 4294967296
     }
-    put4(b, at, (x % 4294967296) as u32);
-    put4(b, at + 4, (x / 4294967296) as u32);
-}
 
-// What is left of `a` past `b`: nothing where it ends before.
-pub fn beyond(a: usize, b: usize) -> usize
-    ensures { result ≡ a - b }
-{
-    if a < b {
-        return 0;
+    fn put(b: &mut [u8], at: usize, x: u64) {
+        if b.len() <= at {
+            return;
+        }
+        u32::put(b, at, (x % 4294967296) as u32);
+        u32::put(b, at + 4, (x / 4294967296) as u32);
     }
-    a - b
-}
-
-// The smaller of two.
-pub fn smaller(a: usize, b: usize) -> usize
-    ensures { result ≡ min a b }
-{
-    if a < b {
-        return a;
-    }
-    b
 }

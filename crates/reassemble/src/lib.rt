@@ -172,7 +172,7 @@ fn accept(
     if h.seq != s.next_seq {
         return Err(Error::InvalidInput); // rule 47
     }
-    let n = octets::beyond(packet.len(), start);
+    let n = packet.len().saturating_sub(start);
     let len = s.len;
     let over = overfills(len, n, most);
     if over {

@@ -30,7 +30,7 @@ fn mtu_for(mtu: Option<usize>, own: usize) -> usize
 {
     match mtu {
         None => own,
-        Some(n) => octets::smaller(own, n),
+        Some(n) => own.min(n),
     }
 }
 

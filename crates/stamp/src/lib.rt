@@ -4,7 +4,7 @@
 
 #![tactic(auto)]
 
-ghost use Rattle.std.specs.Prelude.{◌≡◌, ◌∷◌, [], ◌≤◌, min};
+ghost use Rattle.std.specs.Prelude.{◌≡◌, ◌∷◌, [], ◌≤◌};
 ghost use Rattle.stamp.specs.Checks.{check_of};
 ghost use Rattle.stamp.specs.Stamp.{next, clocked, earlier, timeout_of, is_expired, sooner_of};
 
@@ -41,18 +41,9 @@ impl Timeout {
         match self {
             Timeout::Untimed => least,
             Timeout::Expired => least,
-            Timeout::Left(n) => smaller(n, least),
+            Timeout::Left(n) => n.min(least),
         }
     }
-}
-
-fn smaller(a: u32, b: u32) -> u32
-    ensures { (result ≡ min a b) × (result ≤ b) }
-{
-    if a < b {
-        return a;
-    }
-    b
 }
 
 impl EventStamp {

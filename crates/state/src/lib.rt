@@ -17,7 +17,7 @@ ghost use Rattle.state.specs.Stack.{ticked, Kept, Becomes, stack_of, slot_at, fl
 
 use flows::Flow;
 use mctp::{Eid, Key, TagValue};
-use octets::{beyond, get1, get2, get4, get8, put1, put2, put4, put8};
+use octets::Uint;
 use slot::{Reassembler, State};
 use stamp::EventStamp;
 
@@ -98,40 +98,31 @@ impl Head {
 pub fn read_head(b: &[u8]) -> Head
     ensures { result ≡ head_of b.now }
 {
-    let own = Eid(get1(b, 0));
-    let tag = get1(b, 1);
-    let seq = get1(b, 2);
-    let counter = get4(b, 4);
-    let clock = get8(b, 8);
-    let planned = get8(b, 16);
-    let issue = get8(b, 24);
-    let mtu = get8(b, 32);
-    let stamp = EventStamp {
-        clock: clock,
-        counter: counter,
-    };
     Head {
-        own_eid: own,
-        mtu: mtu as usize,
-        now: stamp,
-        next_timeout: planned,
-        next_tag: tag,
-        next_seq: seq,
-        issue: issue,
+        own_eid: Eid(u8::get(b, 0)),
+        next_tag: u8::get(b, 1),
+        next_seq: u8::get(b, 2),
+        now: EventStamp {
+            counter: u32::get(b, 4),
+            clock: u64::get(b, 8),
+        },
+        next_timeout: u64::get(b, 16),
+        issue: u64::get(b, 24),
+        mtu: u64::get(b, 32) as usize,
     }
 }
 
 pub fn write_head(b: &mut [u8], h: Head)
     ensures { b.new ≡ lay 0 (head_bytes h) b.old }
 {
-    put1(b, 0, h.own_eid.0);
-    put1(b, 1, h.next_tag);
-    put2(b, 2, h.next_seq as u16);
-    put4(b, 4, h.now.counter);
-    put8(b, 8, h.now.clock);
-    put8(b, 16, h.next_timeout);
-    put8(b, 24, h.issue);
-    put8(b, 32, h.mtu as u64);
+    u8::put(b, 0, h.own_eid.0);
+    u8::put(b, 1, h.next_tag);
+    u16::put(b, 2, h.next_seq as u16);
+    u32::put(b, 4, h.now.counter);
+    u64::put(b, 8, h.now.clock);
+    u64::put(b, 16, h.next_timeout);
+    u64::put(b, 24, h.issue);
+    u64::put(b, 32, h.mtu as u64);
 }
 
 // ---- a slot in 40 bytes
@@ -198,7 +189,7 @@ fn flow_in(b: &[u8], at: usize) -> Flow
 pub fn slot_from(b: &[u8], at: usize) -> Reassembler
     ensures { result ≡ slot_from at b.now }
 {
-    if beyond(b.len(), at) < SLOT_WIDTH {
+    if b.len().saturating_sub(at) < SLOT_WIDTH {
         return slot::blank();
     }
     slot_in(b, at)
@@ -207,7 +198,7 @@ pub fn slot_from(b: &[u8], at: usize) -> Reassembler
 pub fn flow_from(b: &[u8], at: usize) -> Flow
     ensures { result ≡ flow_from at b.now }
 {
-    if beyond(b.len(), at) < FLOW_WIDTH {
+    if b.len().saturating_sub(at) < FLOW_WIDTH {
         return flows::no_flow();
     }
     flow_in(b, at)
@@ -216,61 +207,54 @@ pub fn flow_from(b: &[u8], at: usize) -> Flow
 fn read_slot(b: &[u8]) -> Reassembler
     ensures { result ≡ slot_of b.now }
 {
-    let dest = Eid(get1(b, 1));
-    let source = Eid(get1(b, 2));
-    let o = get1(b, 3);
-    let seq = get1(b, 5);
-    let len = get2(b, 6);
-    let counter = get4(b, 8);
-    let clock = get8(b, 16);
-    let state = state_from(get1(b, 0), get8(b, 32));
-    let cookie = mctp::cookie_of(get1(b, 12), get8(b, 24));
-    let t = mctp::decode_type_ic(get1(b, 4));
-    let tag = TagValue(o % 8);
+    let dest = Eid(u8::get(b, 1));
+    let source = Eid(u8::get(b, 2));
+    let o = u8::get(b, 3);
+    let seq = u8::get(b, 5);
+    let len = u16::get(b, 6);
+    let counter = u32::get(b, 8);
+    let clock = u64::get(b, 16);
+    let state = state_from(u8::get(b, 0), u64::get(b, 32));
+    let cookie = mctp::cookie_of(u8::get(b, 12), u64::get(b, 24));
+    let t = mctp::decode_type_ic(u8::get(b, 4));
     let key = Key {
-        source: source,
-        dest: dest,
+        source,
+        dest,
         owner: o / 8 == 1,
-        tag: tag,
-    };
-    let typ = t.typ;
-    let ic = t.ic;
-    let stamp = EventStamp {
-        clock: clock,
-        counter: counter,
+        tag: TagValue(o % 8),
     };
     Reassembler {
-        state: state,
-        key: key,
-        typ: typ,
-        ic: ic,
+        state,
+        key,
+        typ: t.typ,
+        ic: t.ic,
         next_seq: seq,
         len: len as usize,
-        cookie: cookie,
-        stamp: stamp,
+        cookie,
+        stamp: EventStamp { clock, counter },
     }
 }
 
 fn write_lead(b: &mut [u8], state: u8, dest: u8, source: u8, from: u8, kind: u8, seq: u8, len: u16)
     ensures { b.new ≡ puts 0 (lead_row state dest source from kind seq len) b.old }
 {
-    put1(b, 0, state);
-    put1(b, 1, dest);
-    put1(b, 2, source);
-    put1(b, 3, from);
-    put1(b, 4, kind);
-    put1(b, 5, seq);
-    put2(b, 6, len);
+    u8::put(b, 0, state);
+    u8::put(b, 1, dest);
+    u8::put(b, 2, source);
+    u8::put(b, 3, from);
+    u8::put(b, 4, kind);
+    u8::put(b, 5, seq);
+    u16::put(b, 6, len);
 }
 
 fn write_rest(b: &mut [u8], counter: u32, has: u32, clock: u64, value: u64, issue: u64)
     ensures { b.new ≡ puts 8 (rest_row counter has clock value issue) b.old }
 {
-    put4(b, 8, counter);
-    put4(b, 12, has);
-    put8(b, 16, clock);
-    put8(b, 24, value);
-    put8(b, 32, issue);
+    u32::put(b, 8, counter);
+    u32::put(b, 12, has);
+    u64::put(b, 16, clock);
+    u64::put(b, 24, value);
+    u64::put(b, 32, issue);
 }
 
 pub fn write_slot(b: &mut [u8], s: Reassembler)
@@ -306,8 +290,8 @@ fn write_progress(b: &mut [u8], p: Progress)
     requires { p.len < 2 ^ 16 }
     ensures { b.new ≡ puts 5 (progress_row p) b.old }
 {
-    put1(b, 5, p.seq);
-    put2(b, 6, p.len as u16);
+    u8::put(b, 5, p.seq);
+    u16::put(b, 6, p.len as u16);
 }
 
 // ---- the state
@@ -330,7 +314,7 @@ pub fn own_eid(state: &[u8], sizes: Sizes) -> Eid
     requires { Kept sizes state.now }
     ensures { result ≡ (stack_of sizes state.now).head.own_eid }
 {
-    Eid(get1(&state[0..HEAD_WIDTH], 0))
+    Eid(u8::get(&state[0..HEAD_WIDTH], 0))
 }
 
 pub fn now_at(state: &[u8], sizes: Sizes) -> EventStamp
@@ -338,12 +322,9 @@ pub fn now_at(state: &[u8], sizes: Sizes) -> EventStamp
     ensures { result ≡ (stack_of sizes state.now).head.now }
 {
     let w = &state[0..HEAD_WIDTH];
-    let counter = get4(w, 4);
-    let clock = get8(w, 8);
-    EventStamp {
-        clock: clock,
-        counter: counter,
-    }
+    let counter = u32::get(w, 4);
+    let clock = u64::get(w, 8);
+    EventStamp { clock, counter }
 }
 
 // Stores the last event's counter; its clock stays.
@@ -351,7 +332,7 @@ pub fn put_counter(state: &mut [u8], sizes: Sizes, counter: u32)
     requires { Kept sizes state.old }
     ensures { Becomes sizes state.old state.new (with_head (with_counter counter (stack_of sizes state.old).head) (stack_of sizes state.old)) }
 {
-    put4(&mut state[0..HEAD_WIDTH], 4, counter);
+    u32::put(&mut state[0..HEAD_WIDTH], 4, counter);
 }
 
 // Counts one event, and gives its stamp.
@@ -368,7 +349,7 @@ pub fn mtu_at(state: &[u8], sizes: Sizes) -> usize
     requires { Kept sizes state.now }
     ensures { result ≡ (stack_of sizes state.now).head.mtu }
 {
-    get8(&state[0..HEAD_WIDTH], 32) as usize
+    u64::get(&state[0..HEAD_WIDTH], 32) as usize
 }
 
 // Moves the tag counter up by 1 modulo 8, and tells what it is then.
@@ -376,8 +357,8 @@ pub fn next_tag(state: &mut [u8], sizes: Sizes) -> u8
     requires { Kept sizes state.old }
     ensures { (result ≡ ((stack_of sizes state.old).head.next_tag % 8 + 1) % 8) × Becomes sizes state.old state.new (with_head (with_next_tag (((stack_of sizes state.old).head.next_tag % 8 + 1) % 8) (stack_of sizes state.old).head) (stack_of sizes state.old)) }
 {
-    let tag = (get1(&state[0..HEAD_WIDTH], 1) % 8 + 1) % 8;
-    put1(&mut state[0..HEAD_WIDTH], 1, tag);
+    let tag = (u8::get(&state[0..HEAD_WIDTH], 1) % 8 + 1) % 8;
+    u8::put(&mut state[0..HEAD_WIDTH], 1, tag);
     tag
 }
 
@@ -386,8 +367,8 @@ pub fn next_seq(state: &mut [u8], sizes: Sizes) -> u8
     requires { Kept sizes state.old }
     ensures { (result ≡ (with_next_seq (stack_of sizes state.old).head).next_seq) × Becomes sizes state.old state.new (with_head (with_next_seq (stack_of sizes state.old).head) (stack_of sizes state.old)) }
 {
-    let seq = (get1(&state[0..HEAD_WIDTH], 2) % 4 + 1) % 4;
-    put2(&mut state[0..HEAD_WIDTH], 2, seq as u16);
+    let seq = (u8::get(&state[0..HEAD_WIDTH], 2) % 4 + 1) % 4;
+    u16::put(&mut state[0..HEAD_WIDTH], 2, seq as u16);
     seq
 }
 
@@ -395,14 +376,14 @@ pub fn issue_at(state: &[u8], sizes: Sizes) -> u64
     requires { Kept sizes state.now }
     ensures { result ≡ (stack_of sizes state.now).head.issue }
 {
-    get8(&state[0..HEAD_WIDTH], 24)
+    u64::get(&state[0..HEAD_WIDTH], 24)
 }
 
 pub fn put_issue(state: &mut [u8], sizes: Sizes, issue: u64)
     requires { Kept sizes state.old }
     ensures { Becomes sizes state.old state.new (with_head (with_issue issue (stack_of sizes state.old).head) (stack_of sizes state.old)) }
 {
-    put8(&mut state[0..HEAD_WIDTH], 24, issue);
+    u64::put(&mut state[0..HEAD_WIDTH], 24, issue);
 }
 
 // Slot i, or an empty one past the last.
@@ -453,10 +434,10 @@ pub fn progress_at(state: &[u8], sizes: Sizes, i: usize) -> Progress
     let at = SLOTS_AT + SLOT_WIDTH * i;
     let end = at + SLOT_WIDTH;
     let w = &state[at..end];
-    let seq = get1(w, 5);
-    let len = get2(w, 6);
+    let seq = u8::get(w, 5);
+    let len = u16::get(w, 6);
     Progress {
-        seq: seq,
+        seq,
         len: len as usize,
     }
 }
@@ -471,7 +452,7 @@ pub fn word_at(state: &[u8], sizes: Sizes, i: usize) -> u32
     }
     let at = SLOTS_AT + SLOT_WIDTH * i;
     let end = at + SLOT_WIDTH;
-    get4(&state[at..end], 0)
+    u32::get(&state[at..end], 0)
 }
 
 // A slot's state alone, as its number: the lowest byte of that word.
@@ -516,7 +497,7 @@ pub fn flow_word_at(state: &[u8], sizes: Sizes, i: usize) -> u32
     }
     let at = FLOWS_AT + FLOW_WIDTH * i;
     let end = at + FLOW_WIDTH;
-    get4(&state[at..end], 0)
+    u32::get(&state[at..end], 0)
 }
 
 // Writes zeros over the first `n` bytes, as far as there are any: a state that is all zeros is a fresh one.

@@ -8,6 +8,7 @@ ghost use Rattle.std.specs.Prelude.{◌≤◌, length};
 ghost use Rattle.state.specs.Stack.{Kept};
 ghost use Rattle.board.specs.Board.{board};
 
+use octets::Uint;
 use vectors_calls::{Half, NONE};
 
 // ---- reading
@@ -30,7 +31,7 @@ fn read_words(w: &mut [u64], n: usize) -> bool
         if !read(&mut eight, 8) {
             return false;
         }
-        w[i] = octets::get8(&eight, 0);
+        w[i] = u64::get(&eight, 0);
         i += 1;
     }
     true
@@ -43,8 +44,8 @@ fn read_half(w: &mut [u64], b: &mut [u8]) -> Half
     if !read(&mut two, 2) {
         return NONE;
     }
-    let first = octets::get1(&two, 0);
-    let words = octets::get1(&two, 1) as usize;
+    let first = u8::get(&two, 0);
+    let words = u8::get(&two, 1) as usize;
     if w.len() < words {
         return NONE;
     }
@@ -54,7 +55,7 @@ fn read_half(w: &mut [u64], b: &mut [u8]) -> Half
     if !read(&mut two, 2) {
         return NONE;
     }
-    let bytes = octets::get2(&two, 0) as usize;
+    let bytes = u16::get(&two, 0) as usize;
     if b.len() < bytes {
         return NONE;
     }

@@ -10,7 +10,7 @@ use Rattle.copying.proofs.copy.Goals as goal
 pub returns : goal.returns
 returns c =
     let z = c.args in
-    let n = c.smaller-n.result - 0 in
+    let n = c.min-n.result - 0 in
     let s = z.src.now in
     let d = z.dst.now in
     let l : length (take n s) ≡ n = length-take-le n s (omega arith) in

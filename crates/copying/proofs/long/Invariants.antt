@@ -6,7 +6,7 @@ use Rattle.copying.proofs.Front.{front}
 use Rattle.copying.proofs.long.Given as goal
 
 abbrev pub invariant-loop-i : goal.invariant-loop-i
-invariant-loop-i l = (l.i ≤ length l.src) × (l.n ≡ length l.src) × (length l.dst ≡ length l.initial.dst) × (l.dst ≡ front l.i l.src l.initial.dst)
+invariant-loop-i l = record { within : l.i ≤ length l.src; copied : l.dst ≡ front l.i l.src l.initial.dst }
 
 abbrev pub decreases-loop-i : goal.decreases-loop-i
 decreases-loop-i l = length l.src - l.i

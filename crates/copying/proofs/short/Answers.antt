@@ -2,7 +2,7 @@
 use native.Mathlib.Omega.{arith}
 use mathlib.Core.Path.{refl}
 use Prim.Native.Nat.{◌+◌, ◌-◌}
-use lib.ListN.{length, length-set}
+use lib.ListN.{length}
 use Rattle.copying.proofs.Front.{moved, both_ends, front_all, front_byte, front_zero}
 use Rattle.copying.proofs.short.Goals as goal
 
@@ -11,9 +11,9 @@ returns-then-n-lt1 c = let z = c.args in front_all z.src.now z.dst.now 0 (front_
 
 pub returns-then-n-ge4 : goal.returns-then-n-ge4
 returns-then-n-ge4 c =
-    let g = c.shared_slice_known-1.given in
-    both_ends _ _ 4 (moved _ _ 0 4 c.load4-lo.ensures c.store4.ensures (omega arith) g)
-    (moved _ _ _ 4 c.load4-hi.ensures c.store4-then-n-ge4.ensures (omega arith) g) (omega arith) (omega arith)
+    let g = c.type_inv.src in
+    both_ends _ _ 4 (moved _ _ 0 4 c.load-lo.ensures c.store.ensures (omega arith) g)
+    (moved _ _ _ 4 c.load-hi.ensures c.store-then-n-ge4.ensures (omega arith) g) (omega arith) (omega arith)
 
 pub returns-then-n-lt2 : goal.returns-then-n-lt2
 returns-then-n-lt2 c =
@@ -21,12 +21,6 @@ returns-then-n-lt2 c =
     let s = z.src.now in
     let d = z.dst.now in
     front_all s d 1 (front_byte s d 0 0 (front_zero s d) refl (omega arith) (omega arith) (omega arith) (omega arith) (omega arith)) (omega arith)
-
-pub bounds-dst-n : goal.bounds-dst-n
-bounds-dst-n c = simp length-set (omega arith)
-
-pub bounds-dst-n-2 : goal.bounds-dst-n-2
-bounds-dst-n-2 c = simp length-set (omega arith)
 
 pub returns : goal.returns
 returns c =

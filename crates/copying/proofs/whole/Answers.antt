@@ -3,23 +3,8 @@ use native.Mathlib.Omega.{arith}
 use Rattle.copying.proofs.Front.{ends_at_once}
 use Rattle.copying.proofs.whole.Goals as goal
 
-pub short-requires : goal.short-requires
-short-requires c = (omega arith, omega arith)
-
-pub pair8-requires : goal.pair8-requires
-pair8-requires c = (omega arith, omega arith, omega arith)
-
 pub returns-then-n-le16 : goal.returns-then-n-le16
 returns-then-n-le16 c = let z = c.args in ends_at_once z.src.now z.dst.now 8 c.pair8.ensures (omega arith) (omega arith)
 
-pub overflow_sub-n-then-n-le32 : goal.overflow_sub-n-then-n-le32
-overflow_sub-n-then-n-le32 c = omega arith
-
-pub pair16-requires : goal.pair16-requires
-pair16-requires c = (omega arith, omega arith, omega arith)
-
 pub returns-then-n-le32 : goal.returns-then-n-le32
 returns-then-n-le32 c = let z = c.args in ends_at_once z.src.now z.dst.now 16 c.pair16.ensures (omega arith) (omega arith)
-
-pub long-requires : goal.long-requires
-long-requires c = (omega arith, omega arith)

@@ -9,5 +9,5 @@ pub returns : goal.returns
 returns c =
     let z = c.args in
     let out = z.out.now in
-    let e = headed z.h _ out c.encode_header.ensures c.put4.ensures (omega arith) in
+    let e = headed z.h _ out c.encode_header.ensures c.put.ensures (omega arith) in
     front_copied 4 z.used z.n z.payload.now (header_bytes z.h) out e refl (omega arith) (omega arith) c.copy.ensures

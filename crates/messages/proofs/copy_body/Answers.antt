@@ -4,5 +4,5 @@ use Rattle.messages.proofs.copy_body.Goals as goal
 
 pub returns : goal.returns
 returns c =
-    let all = front_copied c.args.out.now c.lend_body-body.ensures c.smaller-n.ensures c.copy.ensures in
+    let all = front_copied c.args.out.now c.lend_body-body.ensures c.min-n.ensures c.copy.ensures in
     record { count = all.0; bytes = all.1 }

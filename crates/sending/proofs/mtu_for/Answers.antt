@@ -2,4 +2,4 @@
 use Rattle.sending.proofs.mtu_for.Goals as goal
 
 pub returns-in-Some : goal.returns-in-Some
-returns-in-Some c = rw c.in-Some.is c.smaller.ensures
+returns-in-Some c = rw c.in-Some.is c.min.ensures

@@ -5,13 +5,13 @@ use Rattle.flows.specs.Table.{no_flow}
 use Rattle.flows.specs.Codec.{flow_width, flow_of}
 use Rattle.state.proofs.flow_from.Goals as goal
 
-pub returns-then-beyond-lt-FLOW_WIDTH : goal.returns-then-beyond-lt-FLOW_WIDTH
-returns-then-beyond-lt-FLOW_WIDTH c =
-    from_none flow_of no_flow c.args.at flow_width c.args.b.now c.beyond.ensures c.if-beyond-lt-FLOW_WIDTH.true c.no_flow.ensures
+pub returns-then-saturating_sub-lt-FLOW_WIDTH : goal.returns-then-saturating_sub-lt-FLOW_WIDTH
+returns-then-saturating_sub-lt-FLOW_WIDTH c =
+    from_none flow_of no_flow c.args.at flow_width c.args.b.now c.saturating_sub.ensures c.if-saturating_sub-lt-FLOW_WIDTH.true c.no_flow.ensures
 
 pub flow_in-requires : goal.flow_in-requires
-flow_in-requires c = let e = c.beyond.ensures in let l = c.if-beyond-lt-FLOW_WIDTH.false in omega (arith, e, l)
+flow_in-requires c = let e = c.saturating_sub.ensures in let l = c.if-saturating_sub-lt-FLOW_WIDTH.false in omega (arith, e, l)
 
 pub returns : goal.returns
 returns c =
-    from_some flow_of no_flow c.args.at flow_width c.args.b.now c.beyond.ensures c.if-beyond-lt-FLOW_WIDTH.false c.flow_in.ensures
+    from_some flow_of no_flow c.args.at flow_width c.args.b.now c.saturating_sub.ensures c.if-saturating_sub-lt-FLOW_WIDTH.false c.flow_in.ensures

@@ -14,4 +14,4 @@ returns-then-i-ge-FLOWS c =
 pub returns : goal.returns
 returns c =
     let i = c.args.i in
-    c.get4.ensures ∙ flow_field _ _ c.requires i 0 4 (omega arith) ∙ flow_word_lem _ (flow_ok _ _ c.requires i)
+    c.get.ensures ∙ flow_field _ _ c.requires i 0 4 (omega arith) ∙ flow_word_lem _ (flow_ok _ _ c.requires i)

@@ -8,4 +8,4 @@ use Rattle.state.proofs.mtu_at.Goals as goal
 pub returns : goal.returns
 unfolding head_of
 returns c =
-    c.get8.ensures ∙ ap (λ (h : Head). h.mtu) (head_get c.args.sizes c.args.state.now)
+    c.get.ensures ∙ ap (λ (h : Head). h.mtu) (head_get c.args.sizes c.args.state.now)

@@ -13,6 +13,6 @@ pub returns : goal.returns
 unfolding head_of
 returns c =
     let x = (stack_of c.args.sizes c.args.state.now).head in
-    let e = c.get1.ensures ∙ ap (λ (h : Head). h.next_seq) (head_get c.args.sizes c.args.state.now) in
-    let n = c.get1.result in
-    (ap (λ (m : ℕ). (m % 4 + 1) % 4) e, head_store _ _ c.requires (lay 2 (le 2 ((n % 4 + 1) % 4))) _ _ (ap (λ (m : ℕ). lay 2 (le 2 ((m % 4 + 1) % 4)) (head_bytes x)) e ∙ seq_bytes x) (seq_ok x (head_ok _ _ c.requires)) c.put2.ensures)
+    let e = c.get.ensures ∙ ap (λ (h : Head). h.next_seq) (head_get c.args.sizes c.args.state.now) in
+    let n = c.get.result in
+    (ap (λ (m : ℕ). (m % 4 + 1) % 4) e, head_store _ _ c.requires (lay 2 (le 2 ((n % 4 + 1) % 4))) _ _ (ap (λ (m : ℕ). lay 2 (le 2 ((m % 4 + 1) % 4)) (head_bytes x)) e ∙ seq_bytes x) (seq_ok x (head_ok _ _ c.requires)) c.put.ensures)

@@ -14,6 +14,6 @@ pub returns : goal.returns
 unfolding head_of
 returns c =
     let x = (stack_of c.args.sizes c.args.state.now).head in
-    let e = c.get1.ensures ∙ ap (λ (h : Head). h.next_tag) (head_get c.args.sizes c.args.state.now) in
-    let n = c.get1.result in
-    (ap (λ (m : ℕ). (m % 8 + 1) % 8) e, head_store _ _ c.requires (lay 1 (le 1 ((n % 8 + 1) % 8))) _ _ (ap (λ (m : ℕ). lay 1 (le 1 ((m % 8 + 1) % 8)) (head_bytes x)) e ∙ tag_bytes ((x.next_tag % 8 + 1) % 8) x) (tag_ok ((x.next_tag % 8 + 1) % 8) x (omega arith) (head_ok _ _ c.requires)) c.put1.ensures)
+    let e = c.get.ensures ∙ ap (λ (h : Head). h.next_tag) (head_get c.args.sizes c.args.state.now) in
+    let n = c.get.result in
+    (ap (λ (m : ℕ). (m % 8 + 1) % 8) e, head_store _ _ c.requires (lay 1 (le 1 ((n % 8 + 1) % 8))) _ _ (ap (λ (m : ℕ). lay 1 (le 1 ((m % 8 + 1) % 8)) (head_bytes x)) e ∙ tag_bytes ((x.next_tag % 8 + 1) % 8) x) (tag_ok ((x.next_tag % 8 + 1) % 8) x (omega arith) (head_ok _ _ c.requires)) c.put.ensures)

@@ -11,5 +11,5 @@ pub returns : goal.returns
 unfolding head_of
 returns c =
     let b = c.args.state.now in
-    let e : ◌≡◌ {A = EventStamp} (record { clock = c.get8-clock.result; counter = c.get4-counter.result }) (head_of (lent_as 0 head_width b)).now = cc in
+    let e : ◌≡◌ {A = EventStamp} (record { clock = c.get-clock.result; counter = c.get-counter.result }) (head_of (lent_as 0 head_width b)).now = cc in
     e ∙ ap (λ (h : Head). h.now) (head_get c.args.sizes b)

@@ -10,4 +10,4 @@ use Rattle.state.proofs.own_eid.Goals as goal
 pub returns : goal.returns
 unfolding head_of
 returns c =
-    ap {B = Eid} (λ (n : ℕ). record { 0 = n }) c.get1.ensures ∙ ap (λ (h : Head). h.own_eid) (head_get c.args.sizes c.args.state.now)
+    ap {B = Eid} (λ (n : ℕ). record { 0 = n }) c.get.ensures ∙ ap (λ (h : Head). h.own_eid) (head_get c.args.sizes c.args.state.now)

@@ -20,5 +20,5 @@ returns c =
     let i = c.args.i in
     let h : i < z.slots = omega arith in
     let ok = slot_ok _ _ c.requires i in
-    let e = slot_progress z.body _ ok _ _ (c.get1-seq.ensures ∙ slot_field _ _ c.requires i 5 1 h) (c.get2-len.ensures ∙ slot_field _ _ c.requires i 6 2 h) in
+    let e = slot_progress z.body _ ok _ _ (c.get-seq.ensures ∙ slot_field _ _ c.requires i 5 1 h) (c.get-len.ensures ∙ slot_field _ _ c.requires i 6 2 h) in
     (e, subst (λ (p : Progress). ProgressOk z.body p) (sym e) (record { seq = ok.seq; len = ok.len }))

@@ -10,4 +10,4 @@ pub returns : goal.returns
 returns c =
     let n = c.args.counter in
     let x = (stack_of c.args.sizes c.args.state.now).head in
-    head_store _ _ c.requires (lay 4 (le 4 n)) _ _ (counter_bytes n x) (counter_ok n x (omega arith) (head_ok _ _ c.requires)) c.put4.ensures
+    head_store _ _ c.requires (lay 4 (le 4 n)) _ _ (counter_bytes n x) (counter_ok n x (omega arith) (head_ok _ _ c.requires)) c.put.ensures

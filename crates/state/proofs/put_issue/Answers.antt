@@ -10,4 +10,4 @@ pub returns : goal.returns
 returns c =
     let n = c.args.issue in
     let x = (stack_of c.args.sizes c.args.state.now).head in
-    head_store _ _ c.requires (lay 24 (le 8 n)) _ _ (issue_bytes n x) (issue_ok n x (omega arith) (head_ok _ _ c.requires)) c.put8.ensures
+    head_store _ _ c.requires (lay 24 (le 8 n)) _ _ (issue_bytes n x) (issue_ok n x (omega arith) (head_ok _ _ c.requires)) c.put.ensures

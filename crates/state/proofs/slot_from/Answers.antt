@@ -6,13 +6,13 @@ use Rattle.state.specs.Layout.{slot_width}
 use Rattle.state.specs.Slot.{slot_of}
 use Rattle.state.proofs.slot_from.Goals as goal
 
-pub returns-then-beyond-lt-SLOT_WIDTH : goal.returns-then-beyond-lt-SLOT_WIDTH
-returns-then-beyond-lt-SLOT_WIDTH c =
-    from_none slot_of blank_slot c.args.at slot_width c.args.b.now c.beyond.ensures c.if-beyond-lt-SLOT_WIDTH.true c.blank.ensures
+pub returns-then-saturating_sub-lt-SLOT_WIDTH : goal.returns-then-saturating_sub-lt-SLOT_WIDTH
+returns-then-saturating_sub-lt-SLOT_WIDTH c =
+    from_none slot_of blank_slot c.args.at slot_width c.args.b.now c.saturating_sub.ensures c.if-saturating_sub-lt-SLOT_WIDTH.true c.blank.ensures
 
 pub slot_in-requires : goal.slot_in-requires
-slot_in-requires c = let e = c.beyond.ensures in let l = c.if-beyond-lt-SLOT_WIDTH.false in omega (arith, e, l)
+slot_in-requires c = let e = c.saturating_sub.ensures in let l = c.if-saturating_sub-lt-SLOT_WIDTH.false in omega (arith, e, l)
 
 pub returns : goal.returns
 returns c =
-    from_some slot_of blank_slot c.args.at slot_width c.args.b.now c.beyond.ensures c.if-beyond-lt-SLOT_WIDTH.false c.slot_in.ensures
+    from_some slot_of blank_slot c.args.at slot_width c.args.b.now c.saturating_sub.ensures c.if-saturating_sub-lt-SLOT_WIDTH.false c.slot_in.ensures

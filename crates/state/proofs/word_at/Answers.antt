@@ -14,4 +14,4 @@ returns-then-sizes-i c =
 pub returns : goal.returns
 returns c =
     let i = c.args.i in
-    c.get4.ensures ∙ slot_field _ _ c.requires i 0 4 (omega arith) ∙ slot_word c.args.sizes.body _ (slot_ok _ _ c.requires i)
+    c.get.ensures ∙ slot_field _ _ c.requires i 0 4 (omega arith) ∙ slot_word c.args.sizes.body _ (slot_ok _ _ c.requires i)

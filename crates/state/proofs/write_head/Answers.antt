@@ -8,12 +8,12 @@ pub returns : goal.returns
 unfolding puts head_bytes
 returns c =
     rw (
-      c.put8-4.ensures,
-      c.put8-3.ensures,
-      c.put8-2.ensures,
-      c.put8.ensures,
-      c.put4.ensures,
-      c.put2.ensures,
-      c.put1-2.ensures,
-      c.put1.ensures,
+      c.put-8.ensures,
+      c.put-7.ensures,
+      c.put-6.ensures,
+      c.put-5.ensures,
+      c.put-4.ensures,
+      c.put-3.ensures,
+      c.put-2.ensures,
+      c.put.ensures,
     ) (puts-lay 0 (head_row c.args.h) c.args.b.now)

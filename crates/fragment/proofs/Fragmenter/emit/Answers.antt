@@ -12,5 +12,5 @@ overflow_add-result c =
 pub returns : goal.returns
 returns c =
     let z = c.args in
-    emits z.self z.size z.room c.body_start-start.ensures c.smaller.ensures c.beyond.ensures c.smaller-n.ensures c.header-header.ensures
+    emits z.self z.size z.room c.body_start-start.ensures c.min.ensures c.saturating_sub.ensures c.min-n.ensures c.header-header.ensures
     c.advanced-next.ensures c.encode_type_ic-kind.ensures

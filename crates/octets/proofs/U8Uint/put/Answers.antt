@@ -1,11 +1,11 @@
--- `put1` stores one byte, which is the number's only one; past the end nothing is stored.
+-- The `put` of u8 stores one byte, which is the number's only one; past the end nothing is stored.
 use native.Mathlib.Omega.{arith}
 use Prim.Native.Nat.{◌%◌}
 use mathlib.Core.Path.{◌≡◌}
 use borrow.Author.Rules.{rules}
 use Rattle.octets.specs.Bytes.{le}
 use Rattle.octets.proofs.Part.{lay-set, lay_past}
-use Rattle.octets.proofs.put1.Goals as goal
+use Rattle.octets.proofs.U8Uint.put.Goals as goal
 
 pub returns-then-b-at : goal.returns-then-b-at
 returns-then-b-at c = search (rules, lay_past)

@@ -1,7 +1,0 @@
--- `load4` reads the number of a window (`window_read`).
-use native.Mathlib.Omega.{arith}
-use Rattle.octets.proofs.Number.{window_read}
-use Rattle.copying.proofs.load4.Goals as goal
-
-pub returns : goal.returns
-returns c = window_read _ 4 _ c.get4.ensures (omega arith)
