@@ -117,11 +117,7 @@ fn tags(rt: &impl Print, state: &mut [u8]) -> io::Result<()>
 // A whole message of zeros in one packet, with a body one byte too long: 5 bytes and 1,033.
 fn zeros() -> [u8; 1038] {
     let mut packet = [0u8; 1038];
-    packet[0] = VERSION;
-    packet[1] = OWN;
-    packet[2] = PEER;
-    packet[3] = WHOLE;
-    packet[4] = TYPE;
+    packet[..5].copy_from_slice(&[VERSION, OWN, PEER, WHOLE, TYPE]);
     packet
 }
 

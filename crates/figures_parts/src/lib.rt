@@ -77,8 +77,8 @@ fn cut(mut f: Fragmenter, payload: &[u8], out: &mut [u8]) -> Fragmented
 fn packet(rt: &impl Print, output: SendOutput, out: &[u8]) -> io::Result<()> {
     match output {
         SendOutput::Packet(n) => bytes(rt, out, n),
-        SendOutput::Complete { tag: _, cookie: _ } => print!(rt; " complete"),
-        SendOutput::Error { err, cookie: _ } => refusal(rt, err),
+        SendOutput::Complete { .. } => print!(rt; " complete"),
+        SendOutput::Error { err, .. } => refusal(rt, err),
     }
 }
 
@@ -119,15 +119,15 @@ pub fn packets(
 fn taken(rt: &impl Print, output: SendOutput) -> io::Result<()> {
     match output {
         SendOutput::Packet(_) => print!(rt; " taken"),
-        SendOutput::Complete { tag: _, cookie: _ } => print!(rt; " complete"),
-        SendOutput::Error { err, cookie: _ } => refusal(rt, err),
+        SendOutput::Complete { .. } => print!(rt; " complete"),
+        SendOutput::Error { err, .. } => refusal(rt, err),
     }
 }
 
 // Takes the first step with a buffer of that room, at most 255.
 fn cut_first(rt: &impl Print, f: Fragmenter, payload: &[u8], room: usize) -> io::Result<()> {
     let mut out = [0u8; 255];
-    if 255 < room {
+    if out.len() < room {
         return Ok(());
     }
     let first = cut(f, payload, &mut out[..room]);
