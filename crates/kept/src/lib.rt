@@ -18,22 +18,6 @@ ghost use Rattle.kept.specs.Ranges.{HeadRanges, SlotRanges};
 use slot::Reassembler;
 use state::{FLOW_WIDTH, FLOWS_AT, HEAD_WIDTH, Head, SLOT_WIDTH, SLOTS_AT, Sizes};
 
-pub fn same_bytes(a: &[u8], b: &[u8]) -> bool
-    ensures { Tells (a.now ≡ b.now) result }
-{
-    if a.len() != b.len() {
-        return false;
-    }
-    let mut i = 0;
-    while i < a.len() {
-        if a[i] != b[i] {
-            return false;
-        }
-        i += 1;
-    }
-    true
-}
-
 // ---- one block
 
 // Whether a head has the ranges that the widths of its fields do not give.
@@ -76,7 +60,7 @@ fn head_holds(state: &[u8]) -> bool
     }
     let mut anew = [0u8; HEAD_WIDTH];
     state::write_head(&mut anew, h);
-    same_bytes(&anew, w)
+    anew.as_slice() == w
 }
 
 fn flow_holds(state: &[u8], at: usize) -> bool
@@ -91,7 +75,7 @@ fn flow_holds(state: &[u8], at: usize) -> bool
     }
     let mut anew = [0u8; FLOW_WIDTH];
     flows::write_flow(&mut anew, f);
-    same_bytes(&anew, w)
+    anew.as_slice() == w // bytes that hold nothing are compared as well
 }
 
 fn slot_holds(state: &[u8], at: usize, body: usize) -> bool
@@ -106,7 +90,7 @@ fn slot_holds(state: &[u8], at: usize, body: usize) -> bool
     }
     let mut anew = [0u8; SLOT_WIDTH];
     state::write_slot(&mut anew, s);
-    same_bytes(&anew, w)
+    anew.as_slice() == w
 }
 
 // ---- all blocks

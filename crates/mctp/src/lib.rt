@@ -9,6 +9,8 @@ ghost use Rattle.octets.specs.Bytes.{le};
 ghost use Rattle.mctp.specs.Terms.{normal_eid, error_no, tag_of, is_owner, tag_under, same_bool, cookie_no, cookie_value, cookie_of};
 ghost use Rattle.mctp.specs.Header.{header_of, header_bytes, bit, type_byte, type_of, lead, flags_of};
 
+use std::fmt;
+
 #[derive(Clone, Copy)]
 pub struct Eid(pub u8);
 
@@ -32,7 +34,7 @@ pub enum Tag {
 }
 
 // The refusals (docs/RULES.md 13); `number` gives each its number.
-#[derive(Clone, Copy)]
+#[derive(Clone, Copy, Debug, PartialEq, Eq)]
 pub enum Error {
     InvalidInput,
     NoSpace,
@@ -154,6 +156,20 @@ impl Error {
             Error::TagUnavailable => 4,
             Error::Unreachable => 5,
             Error::PoolShort => 6,
+        }
+    }
+}
+
+// A refusal prints as its name.
+impl fmt::Display for Error {
+    fn fmt<W: fmt::Write>(&self, f: &mut fmt::Formatter<W>) -> fmt::Result {
+        match self {
+            Error::InvalidInput => write!(f, "InvalidInput"),
+            Error::NoSpace => write!(f, "NoSpace"),
+            Error::BadArgument => write!(f, "BadArgument"),
+            Error::TagUnavailable => write!(f, "TagUnavailable"),
+            Error::Unreachable => write!(f, "Unreachable"),
+            Error::PoolShort => write!(f, "PoolShort"),
         }
     }
 }

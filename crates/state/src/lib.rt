@@ -504,12 +504,6 @@ pub fn flow_word_at(state: &[u8], sizes: Sizes, i: usize) -> u32
 pub fn clear(b: &mut [u8], n: usize)
     ensures { b.new ≡ lay 0 (replicate n 0) b.old }
 {
-    let mut i = 0;
-    while i < n {
-        if b.len() <= i {
-            return;
-        }
-        b[i] = 0;
-        i += 1;
-    }
+    let n = n.min(b.len());
+    b[..n].fill(0);
 }

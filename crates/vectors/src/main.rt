@@ -1,87 +1,56 @@
 // Replays a stored list of calls on the exported calls, and compares each answer with the one that stands beside it: the original's, or where docs/RULES.md
 // adds a rule, that rule's. It writes how many calls there were, and the first that differs. The list is the file `stdin`; oracle/README.md says how it is made.
-// Leans on `vectors_calls` for a call by its number, on `octets` for the records, on `kept` for two buffers compared.
+// Leans on `vectors_calls` for a call by its number, on `octets` for the records.
 
 #![tactic(auto)]
 
-ghost use Rattle.std.specs.Prelude.{◌≤◌, length};
+ghost use Rattle.std.specs.Prelude.{◌≤◌, length, IfSome};
 ghost use Rattle.state.specs.Stack.{Kept};
 ghost use Rattle.board.specs.Board.{board};
 
 use octets::Uint;
-use vectors_calls::{Half, NONE};
+use std::io;
+use std::io::Read;
+use vectors_calls::Half;
 
 // ---- reading
 
-// Reads the next n bytes of the list, and tells whether they are there.
-fn read(b: &mut [u8], n: usize) -> bool {
-    if b.len() < n {
-        return false;
-    }
-    io::read_full(0, &mut b[0..n]) == n
-}
-
-// Reads the next n numbers of eight bytes, and tells whether they are there.
-fn read_words(w: &mut [u64], n: usize) -> bool
-    requires { n ≤ length w.old }
-{
+// Reads numbers of eight bytes, where the list has them all.
+fn read_words(from: &mut impl Read, words: &mut [u64]) -> io::Result<()> {
     let mut eight = [0u8; 8];
-    let mut i = 0;
-    while i < n {
-        if !read(&mut eight, 8) {
-            return false;
-        }
-        w[i] = u64::get(&eight, 0);
-        i += 1;
+    for word in words.iter_mut() {
+        from.read_exact(&mut eight)?;
+        *word = u64::get(&eight, 0);
     }
-    true
+    Ok(())
 }
 
-fn read_half(w: &mut [u64], b: &mut [u8]) -> Half
-    ensures { (result.words ≤ length w.new) × (result.bytes ≤ length b.new) }
+// Reads the next half of a record; there is none where the list ends before, or has more than there is room for.
+fn read_half(from: &mut impl Read, w: &mut [u64], b: &mut [u8]) -> Option<Half>
+    ensures { IfSome result (λ half. (half.words ≤ length w.new) × (half.bytes ≤ length b.new)) }
 {
     let mut two = [0u8; 2];
-    if !read(&mut two, 2) {
-        return NONE;
-    }
+    from.read_exact(&mut two).ok()?;
     let first = u8::get(&two, 0);
     let words = u8::get(&two, 1) as usize;
     if w.len() < words {
-        return NONE;
+        return None;
     }
-    if !read_words(w, words) {
-        return NONE;
-    }
-    if !read(&mut two, 2) {
-        return NONE;
-    }
+    read_words(from, &mut w[..words]).ok()?;
+    from.read_exact(&mut two).ok()?;
     let bytes = u16::get(&two, 0) as usize;
     if b.len() < bytes {
-        return NONE;
+        return None;
     }
-    if !read(b, bytes) {
-        return NONE;
-    }
-    Half {
-        there: true,
-        first: first,
-        words: words,
-        bytes: bytes,
-    }
+    from.read_exact(&mut b[..bytes]).ok()?;
+    Some(Half {
+        first,
+        words,
+        bytes,
+    })
 }
 
-// ---- comparing: rows and buffers are filled alike before, so they are compared whole
-
-fn same_words(a: &[u64; 16], b: &[u64; 16]) -> bool {
-    let mut i = 0;
-    while i < 16 {
-        if a[i] != b[i] {
-            return false;
-        }
-        i += 1;
-    }
-    true
-}
+// ---- the list
 
 // How a turn of the list ends: no record is left, or the answer is the one that stands in the list, or it is another.
 #[derive(Clone, Copy)]
@@ -91,37 +60,10 @@ enum Outcome {
     Differs,
 }
 
-// Whether an answer is the one that stands in the list.
-fn same(
-    a: Half,
-    told: Half,
-    got: &[u64; 16],
-    w: &[u64; 16],
-    body: &[u8; 2048],
-    b: &[u8; 2048],
-) -> Outcome {
-    if a.first != told.first {
-        return Outcome::Differs;
-    }
-    if a.words != told.words {
-        return Outcome::Differs;
-    }
-    if a.bytes != told.bytes {
-        return Outcome::Differs;
-    }
-    if !same_words(got, w) {
-        return Outcome::Differs;
-    }
-    if !kept::same_bytes(body, b) {
-        return Outcome::Differs;
-    }
-    Outcome::Same
-}
-
-// ---- the list
-
-// Performs the next record of the list.
+// Performs the next record of the list. Rows and buffers are filled alike before, so they are compared whole; where there is no answer, or the list has none,
+// that counts as an answer of 0 with nothing beside it.
 fn turn(
+    from: &mut impl Read,
     state: &mut [u8],
     pools: &mut [u8; 8400],
     f: &mut [u64; 13],
@@ -133,21 +75,17 @@ fn turn(
 {
     let mut w = [0u64; 16];
     let mut b = [0u8; 2048];
-    let asked = read_half(&mut w, &mut b);
-    if !asked.there {
+    let Some(asked) = read_half(from, &mut w, &mut b) else {
         return Outcome::End;
-    }
-    let list = w;
-    let words = asked.words;
-    let bytes = asked.bytes;
+    };
     let mut got = [0u64; 16];
     let mut body = [165u8; 2048];
-    let a = vectors_calls::perform(
+    let answer = vectors_calls::perform(
         asked.first,
         state,
         &w,
-        &list[0..words],
-        &b[0..bytes],
+        &w[..asked.words],
+        &b[..asked.bytes],
         pools,
         f,
         payload,
@@ -157,50 +95,48 @@ fn turn(
     );
     let mut wanted = [0u64; 16];
     let mut bytes_wanted = [165u8; 2048];
-    let told = read_half(&mut wanted, &mut bytes_wanted);
-    same(a, told, &got, &wanted, &body, &bytes_wanted)
-}
-
-fn report(calls: u64, well: bool) {
-    io::print_decimal(1, calls);
-    if well {
-        io::write_all(1, b" calls, no difference\n");
-        return;
+    let told = read_half(from, &mut wanted, &mut bytes_wanted);
+    let same = answer.unwrap_or(Half::ZERO) == told.unwrap_or(Half::ZERO);
+    if same && got == wanted && body == bytes_wanted {
+        Outcome::Same
+    } else {
+        Outcome::Differs
     }
-    io::write_all(1, b" is the first call that differs\n");
 }
 
 const MOST_CALLS: u64 = 1000000;
 
 // Replays the whole list, on a stack of its own.
-fn replay(state: &mut [u8]) {
+fn replay(rt: &(impl Print + Input), state: &mut [u8]) -> io::Result<()> {
     if board::hyphaloom_new(state, 8, 64, 0) != 0 {
-        return;
+        return Ok(());
     }
+    let mut from = rt.reader();
     let mut pools = [0u8; 8400];
     let mut payload = [0u8; 2048];
     let mut f = [0u64; 13];
     let mut size = 0;
-    let mut calls = 0;
-    while calls < MOST_CALLS {
-        match turn(state, &mut pools, &mut f, &mut payload, &mut size) {
-            Outcome::End => {
-                report(calls, true);
-                return;
-            }
+    for calls in 0..MOST_CALLS {
+        match turn(
+            &mut from,
+            state,
+            &mut pools,
+            &mut f,
+            &mut payload,
+            &mut size,
+        ) {
+            Outcome::End => return println!(rt; "{calls} calls, no difference"),
             Outcome::Differs => {
-                report(calls + 1, false);
-                return;
+                return println!(rt; "{} is the first call that differs", calls + 1);
             }
-            Outcome::Same => {
-                calls += 1;
-            }
+            Outcome::Same => {}
         }
     }
-    report(calls, true);
+    println!(rt; "{MOST_CALLS} calls, no difference")
 }
 
-fn main() {
+fn main(rt: HostRuntime) {
     let mut state = [0u8; 2248];
-    replay(&mut state);
+    // a line that cannot be written does not change the exit status
+    let _ = replay(&rt, &mut state);
 }

@@ -1,10 +1,10 @@
 // A call by its number, as a stored list of calls has it: what is asked and what is answered, as numbers and bytes. It is a part of the program `vectors`.
 // Every call on a stack goes through `performing::perform`, whose contract is the model that the theorems speak of; oracle/README.md has the list's form.
-// Leans on `performing` for the calls, on `copying` for bytes.
+// Leans on `performing` for the calls.
 
 #![tactic(auto)]
 
-ghost use Rattle.std.specs.Prelude.{◌≡◌, true, ◌≤◌};
+ghost use Rattle.std.specs.Prelude.{◌≤◌};
 ghost use Rattle.state.specs.Stack.{Kept};
 ghost use Rattle.board.specs.Board.{board};
 
@@ -12,42 +12,26 @@ use rows::narrow;
 
 // Half a record: what is asked, or in the same form what is answered. It has the number of the call or of the answer, and how many numbers and bytes come with
 // it; those lie beside it.
-#[derive(Clone, Copy)]
+#[derive(Clone, Copy, PartialEq, Eq)]
 pub struct Half {
-    pub there: bool,
     pub first: u8,
     pub words: usize,
     pub bytes: usize,
 }
 
-pub const NONE: Half = Half {
-    there: false,
-    first: 0,
-    words: 0,
-    bytes: 0,
-};
-
-fn answer(first: u8, words: usize, bytes: usize) -> Half
-    ensures { result ≡ record { there = true; first = first; words = words; bytes = bytes } }
-{
-    Half {
-        there: true,
-        first: first,
-        words: words,
-        bytes: bytes,
-    }
+impl Half {
+    // 0, with nothing beside it.
+    pub const ZERO: Half = Half {
+        first: 0,
+        words: 0,
+        bytes: 0,
+    };
 }
 
-// Puts a row at the front of the numbers answered.
+// Puts a row at the front of the numbers answered, as far as they go.
 fn put_row(got: &mut [u64; 16], row: &[u64]) {
-    let mut i = 0;
-    while i < row.len() {
-        if 16 <= i {
-            return;
-        }
-        got[i] = row[i];
-        i += 1;
-    }
+    let n = row.len().min(16);
+    got[..n].copy_from_slice(&row[..n]);
 }
 
 // Puts bytes at the front of a buffer, and tells how many; none where there is no room.
@@ -56,7 +40,7 @@ fn put(to: &mut [u8], bytes: &[u8]) -> usize {
     if to.len() < n {
         return 0;
     }
-    copying::copy(to, bytes);
+    to[..n].copy_from_slice(bytes);
     n
 }
 
@@ -112,7 +96,7 @@ fn call(
     let mut other = [0u8; 1];
     let mut two = [7777u64; 2];
     let mut message = [7777u64; 10];
-    let r = performing::perform(
+    let first = performing::perform(
         op,
         state,
         pool,
@@ -124,8 +108,12 @@ fn call(
         &mut message,
         f,
     );
-    let n = put_told(op, &two, &message, f, got);
-    answer(r, n, 0)
+    let words = put_told(op, &two, &message, f, got);
+    Half {
+        first,
+        words,
+        bytes: 0,
+    }
 }
 
 // ---- the pools: two side by side, which keep their bytes from call to call
@@ -138,32 +126,28 @@ struct Span {
     end: usize,
 }
 
+impl Span {
+    const NONE: Span = Span { from: 0, end: 0 };
+}
+
 // Where the n bytes from byte `at` of a pool lie; none where they do not lie within the pools.
 fn place(pool: u64, at: u64, n: u64, room: usize) -> Span
     ensures { (result.from ≤ result.end) × (result.end ≤ room) }
 {
-    if POOL < at {
-        return Span { from: 0, end: 0 };
-    }
-    if POOL < n {
-        return Span { from: 0, end: 0 };
+    if POOL < at || POOL < n {
+        return Span::NONE;
     }
     let from = (pool % 2 * POOL + at) as usize;
     let end = from + n as usize;
     if room < end {
-        return Span { from: 0, end: 0 };
+        return Span::NONE;
     }
-    Span {
-        from: from,
-        end: end,
-    }
+    Span { from, end }
 }
 
 // Copies out bytes of a pool, as they are.
 fn take(pools: &[u8], pool: u64, at: u64, n: u64, body: &mut [u8]) -> usize {
-    let part = place(pool, at, n, pools.len());
-    let from = part.from;
-    let end = part.end;
+    let Span { from, end } = place(pool, at, n, pools.len());
     put(body, &pools[from..end])
 }
 
@@ -182,9 +166,7 @@ fn pooled(
 {
     let args = [w[2], w[3], 0, 0, 0, 0, 0, 0, 0, 0];
     let none = [0u64; 1];
-    let pool = place(w[0], 0, w[1], pools.len());
-    let from = pool.from;
-    let end = pool.end;
+    let Span { from, end } = place(w[0], 0, w[1], pools.len());
     call(
         op,
         state,
@@ -217,7 +199,7 @@ fn plain(
 
 // ---- sending: the fragmenter's row and the payload stay from call to call
 
-// Takes one step into a buffer of `room` bytes.
+// Takes one step into a buffer of `room` bytes, where the payload and the buffer are that long.
 fn step(
     f: &mut [u64; 13],
     payload: &[u8],
@@ -225,23 +207,23 @@ fn step(
     room: usize,
     got: &mut [u64; 16],
     body: &mut [u8],
-) -> Half {
-    if payload.len() < size {
-        return NONE;
-    }
-    if body.len() < room {
-        return NONE;
-    }
+) -> Option<Half> {
+    let payload = payload.get(..size)?;
+    let packet = body.get_mut(..room)?;
     let mut len = 7777;
-    let r = performing::cut(f, &payload[0..size], &mut body[0..room], &mut len);
+    let first = performing::cut(f, payload, packet, &mut len);
     put_row(got, f);
     got[13] = len;
-    answer(r, 14, room)
+    Some(Half {
+        first,
+        words: 14,
+        bytes: room,
+    })
 }
 
 // ---- the list
 
-// Performs one call, whatever its number.
+// Performs one call, whatever its number; there is no answer where a step has too little to work on.
 pub fn perform(
     op: u8,
     state: &mut [u8],
@@ -254,27 +236,39 @@ pub fn perform(
     size: &mut usize,
     got: &mut [u64; 16],
     body: &mut [u8],
-) -> Half
+) -> Option<Half>
     requires { Kept board state.old }
     ensures { Kept board state.new }
 {
     match op {
-        1 => answer(renew(state, w), 0, 0),
+        1 => {
+            let first = renew(state, w);
+            Some(Half {
+                first,
+                ..Half::ZERO
+            })
+        }
         6 => {
             *size = put(payload, packet);
-            answer(0, 0, 0)
+            Some(Half::ZERO)
         }
         7 => step(f, payload, *size, w[0] as usize, got, body),
-        9 => pooled(op, state, pools, w, packet, f, got),
+        9 => Some(pooled(op, state, pools, w, packet, f, got)),
         12 => {
             let told = pooled(op, state, pools, w, packet, f, got);
-            if told.first == 0 {
-                let n = take(pools, w[0], got[8], got[9], body);
-                return answer(0, 10, n);
+            if told.first != 0 {
+                return Some(told);
             }
-            told
+            let bytes = take(pools, w[0], got[8], got[9], body);
+            Some(Half { bytes, ..told })
         }
-        18 => answer(0, 0, take(pools, w[0], w[1], w[2], body)),
-        _ => plain(op, state, w, packet, list, f, got),
+        18 => {
+            let bytes = take(pools, w[0], w[1], w[2], body);
+            Some(Half {
+                bytes,
+                ..Half::ZERO
+            })
+        }
+        _ => Some(plain(op, state, w, packet, list, f, got)),
     }
 }

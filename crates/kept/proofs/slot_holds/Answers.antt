@@ -1,5 +1,5 @@
 -- The slot is read, and the ranges that its bytes do not give are tested; written out again it equals the block exactly where the block holds a slot (`reheld`).
-use mathlib.Core.Path.{refl, ◌≡◌}
+use mathlib.Core.Path.{refl, ◌≡◌, ◌∙◌}
 use Rattle.state.specs.Layout.{slot_width}
 use Rattle.slot.specs.Slot.{blank_slot}
 use Rattle.octets.proofs.Froms.{from_read}
@@ -14,7 +14,7 @@ use Rattle.kept.specs.Tells.{Tells}
 use Rattle.kept.specs.Ranges.{SlotRanges}
 use Rattle.state.specs.Slot.{slot_of, slot_from, slot_codec, SlotOk}
 use Rattle.state.proofs.SlotLaws.{slot_lawful}
-use Rattle.kept.proofs.TellLaws.{says_no_lem, refuted}
+use Rattle.kept.proofs.TellLaws.{says_no_lem, refuted, slices_tell}
 use Rattle.kept.proofs.BlockLaws.{unheld, reheld}
 use Rattle.kept.proofs.RangeLaws.{slot_ranged, slot_tested}
 use Rattle.std.proofs.lemmas.Bool.{not_from_false}
@@ -33,4 +33,4 @@ write_slot-requires c = let ok = ranged c.args.at c.args.body c.args.state.now c
 
 pub returns : goal.returns
 returns c =
-    reheld (slot_codec c.args.body) c.args.at c.args.state.now (from_read slot_of blank_slot c.args.at slot_width c.args.state.now c.requires c.slot_from-s.ensures) (slot_lawful c.args.body) (ranged c.args.at c.args.body c.args.state.now c.slot_from-s.result c.type_inv.state c.requires c.slot_from-s.ensures c.slot_ranges.ensures c.if-not-slot_ranges.false) _ _ refl c.write_slot.ensures c.same_bytes.ensures
+    reheld (slot_codec c.args.body) c.args.at c.args.state.now (from_read slot_of blank_slot c.args.at slot_width c.args.state.now c.requires c.slot_from-s.ensures) (slot_lawful c.args.body) (ranged c.args.at c.args.body c.args.state.now c.slot_from-s.result c.type_inv.state c.requires c.slot_from-s.ensures c.slot_ranges.ensures c.if-not-slot_ranges.false) _ _ refl (c.as_slice.ensures ∙ c.write_slot.ensures) (search slices_tell)
