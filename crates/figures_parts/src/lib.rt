@@ -43,7 +43,7 @@ pub fn fresh_stack(state: &mut [u8], mtu: usize)
     requires { (2248 ≤ length state.old) × (5 ≤ mtu) }
     ensures { Becomes board state.old state.new (bay_stack mtu) }
 {
-    estack::new(state, Sizes::BOARD, Eid(8), mtu, 0);
+    let _ = estack::new(state, Sizes::BOARD, Eid(8), mtu, 0);
 }
 
 // ---- sending
@@ -255,7 +255,7 @@ fn settle(
     ensures { Kept board state.new }
 {
     let shown = fetch(rt, state, pool, handle, show);
-    estack::finished_receive(state, Sizes::BOARD, handle);
+    let _ = estack::finished_receive(state, Sizes::BOARD, handle);
     shown
 }
 
