@@ -6,8 +6,8 @@ use Rattle.octets.specs.Pick.{pick}
 use Rattle.mctp.specs.declared.Eid.{Eid}
 use Rattle.mctp.specs.declared.Tag.{Tag}
 use Rattle.mctp.specs.declared.Error.TheVariants.{BadArgument, PoolShort}
-use Rattle.mctp.specs.Terms.{error_no, tag_of, is_owner, cookie_no, cookie_value}
-use Rattle.mctp.specs.Answer.{Answer, gives, refuses, flag_word}
+use Rattle.mctp.specs.Terms.{tag_of, is_owner, cookie_no, cookie_value}
+use Rattle.mctp.specs.Answer.{Answer, gives, answer_as, found_words, flag_word}
 use Rattle.slot.specs.declared.State.TheVariants.{Done as Waiting, HandleOut}
 use Rattle.slot.specs.declared.Reassembler.{Reassembler}
 use Rattle.slot.specs.Slot.{blank_slot, handle_is, kept_under, listed, with_state, with_slot_cookie}
@@ -24,8 +24,7 @@ use Rattle.mctp.specs.declared.Error.{Error}
 
 -- 0 and nothing else
 abbrev pub done_as : Result (Unit {0}) Error → Answer
-done_as (Ok tt) = gives []
-done_as (Err err) = refuses (error_no err) []
+done_as = answer_as (λ _. [])
 
 -- a message in numbers: source, destination, TO, tag, type, IC, has a cookie, cookie, the body's place in the pool and its length
 abbrev pub message_words : Message → List ℕ
@@ -43,13 +42,11 @@ message_words m =
     ∷ []
 
 abbrev pub fetched_as : Result Message Error → Answer
-fetched_as (Ok m) = gives (message_words m)
-fetched_as (Err err) = refuses (error_no err) []
+fetched_as = answer_as message_words
 
 -- 0 and a handle, or 0 alone where there is none
 abbrev pub deferred_as : Option ReceiveHandle → Answer
-deferred_as (Some h) = gives (handle_words h)
-deferred_as None = gives []
+deferred_as d = gives (found_words handle_words d)
 
 -- ---- handles
 
