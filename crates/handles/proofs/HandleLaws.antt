@@ -1,5 +1,5 @@
 -- A good handle belongs to a slot, and the calls that take a handle store that slot or nothing.
-use Prim.Native.Nat.{ℕ, ◌^◌, ◌≤◌, ◌<◌}
+use Prim.Native.Nat.{ℕ, ◌≤◌, ◌<◌}
 use native.Mathlib.Omega.{arith}
 use mathlib.Core.Path.{◌≡◌, refl}
 use mathlib.Core.Bool.{Bool, true, false}
@@ -9,21 +9,16 @@ use lib.ListN.{length}
 use borrow.Author.Tests.{ltb-true, lt-ltb, le-ltb}
 use Rattle.std.specs.Prelude.{Err, None, Ok, Option, Result, Some}
 use Rattle.octets.specs.Pick.{pick}
-use Rattle.mctp.specs.declared.Error.TheVariants.{BadArgument}
-use Rattle.mctp.specs.Terms.{cookie_value}
-use Rattle.slot.specs.declared.State.{State}
 use Rattle.slot.specs.declared.State.TheVariants.{HandleOut}
 use Rattle.slot.specs.declared.Reassembler.{Reassembler}
-use Rattle.slot.specs.Slot.{with_state, with_slot_cookie}
+use Rattle.slot.specs.Slot.{with_state}
 use Rattle.state.specs.declared.Sizes.{Sizes}
-use Rattle.state.specs.Slot.{SlotOk, issue_no}
 use Rattle.state.specs.Head.{with_issue}
 use Rattle.state.specs.Stack.{Stack, Kept, Becomes, stack_of, slot_at, with_slot, with_head}
 use Rattle.state.proofs.StackLaws.{slots_length, stays, and_then}
 use Rattle.slot.specs.declared.ReceiveHandle.{ReceiveHandle}
 use Rattle.slot.specs.Handle.{next_issue}
-use Rattle.handles.specs.Handles.{is_good, handled, take_of}
-use Rattle.mctp.specs.declared.AppCookie.{AppCookie}
+use Rattle.handles.specs.Handles.{is_good, IsUnder, IsBad, handled, take_of}
 use Rattle.mctp.specs.declared.Error.{Error}
 
 first_true : (b x : Bool) → pick b x false ≡ true → b ≡ true
@@ -44,43 +39,13 @@ module _ (z : Sizes) (f : Reassembler → Reassembler) (h : ReceiveHandle) (b : 
   abbrev pub Handled : Result (Unit {0}) Error → List ℕ → Type 0
   Handled r b' = (r ≡ (handled f h (stack_of z b)).said) × Becomes z b b' (handled f h (stack_of z b)).stack
 
-  pub handled_good : {b' : List ℕ} → is_good h (stack_of z b) ≡ true → Becomes z b b' (with_slot h.index (f (slot_at h.index (stack_of z b))) (stack_of z b)) → Handled (Ok tt) b'
+  pub handled_good : {s : Reassembler} {b' : List ℕ} → IsUnder z.body h (stack_of z b) s → Becomes z b b' (with_slot h.index (f s) (stack_of z b)) → Handled (Ok tt) b'
   unfolding handled pick
-  handled_good e p = rw e (refl, p)
+  handled_good u p = rw u.good (refl, rw u.same at p)
 
-  pub handled_bad : is_good h (stack_of z b) ≡ false → Kept z b → Handled (Err BadArgument) b
+  pub handled_bad : {err : Error} → IsBad h (stack_of z b) err → Kept z b → Handled (Err err) b
   unfolding handled pick
-  handled_bad e k = rw e (refl, stays z b k)
-
-  -- the slot that is stored may be computed beforehand
-  pub handled_at : {x : Reassembler} {r : Result (Unit {0}) Error} {b' : List ℕ} → x ≡ f (slot_at h.index (stack_of z b)) → (r ≡ (handled (λ _. x) h (stack_of z b)).said) × Becomes z b b' (handled (λ _. x) h (stack_of z b)).stack → Handled r b'
-  unfolding handled
-  handled_at e p = rw e at p
-
--- a slot that has another state or another cookie is Ok
-abbrev changed : State → Option AppCookie → Reassembler → Reassembler
-changed state cookie s = with_state state (with_slot_cookie cookie s)
-
-pub changed_ok : (B : ℕ) (s : Reassembler) → SlotOk B s → (state : State) (cookie : Option AppCookie) → issue_no state < 2 ^ 64 → cookie_value cookie < 2 ^ 64 → SlotOk B (changed state cookie s)
-changed_ok B s ok state cookie n v = record {
-  dest = ok.dest;
-  source = ok.source;
-  tag = ok.tag;
-  typ = ok.typ;
-  seq = ok.seq;
-  len = ok.len;
-  wide = ok.wide;
-  counter = ok.counter;
-  clock = ok.clock;
-  value = v;
-  issue = n;
-}
-
-pub with_state_ok : (B : ℕ) (s : Reassembler) → SlotOk B s → (state : State) → issue_no state < 2 ^ 64 → SlotOk B (with_state state s)
-with_state_ok B s ok state n = changed_ok B s ok state s.cookie n ok.value
-
-pub with_cookie_ok : (B : ℕ) (s : Reassembler) → SlotOk B s → (cookie : Option AppCookie) → cookie_value cookie < 2 ^ 64 → SlotOk B (with_slot_cookie cookie s)
-with_cookie_ok B s ok cookie v = changed_ok B s ok s.state cookie ok.issue v
+  handled_bad u k = rw (u.bad, u.same) (refl, stays z b k)
 
 -- where a handle goes out, the slot is stored and then the count
 module _ (z : Sizes) (b : List ℕ) (i : ℕ) where

@@ -1,16 +1,11 @@
 -- `take` stores the slot and then the count (`taken`), or nothing where there is no such slot.
 use mathlib.Core.Path.{ap, ◌∙◌}
-use borrow.Author.Rules.{rules}
 use Rattle.slot.specs.Slot.{with_state}
 use Rattle.slot.specs.declared.Reassembler.{Reassembler}
 use Rattle.slot.specs.declared.State.TheVariants.{HandleOut}
 use Rattle.slot.specs.Handle.{next_issue}
-use Rattle.handles.proofs.HandleLaws.{with_state_ok, taken, not_taken}
+use Rattle.handles.proofs.HandleLaws.{taken, not_taken}
 use Rattle.handles.proofs.take.Goals as goal
-
-pub put_slot-requires : goal.put_slot-requires
-put_slot-requires c =
-    (c.requires, rw c.take_handle.ensures (with_state_ok c.args.sizes.body c.slot_at-s.result c.slot_at-s.ensures.1 (HandleOut c.next_issue-issue.result) (search rules)))
 
 pub returns-then-i-sizes : goal.returns-then-i-sizes
 returns-then-i-sizes c =
