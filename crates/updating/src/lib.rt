@@ -25,10 +25,7 @@ pub struct Next {
 fn plan_check(clock: u64, least: u32) -> u64
     ensures { result ≡ planned_at clock least }
 {
-    if 18446744073709551615 - clock < (least as u64) {
-        return 18446744073709551615;
-    }
-    clock + (least as u64)
+    clock.saturating_add(u64::from(least))
 }
 
 fn put_clock(state: &mut [u8], sizes: Sizes, h: Head, stamp: EventStamp, next_timeout: u64)
@@ -47,12 +44,12 @@ fn check(state: &mut [u8], sizes: Sizes, clock: u64) -> Result<Next, Error>
         least: config::TIMEOUT_INTERVAL,
         expired: false,
     };
-    let slots = slot_walks::expire_slots(state, sizes, clock, start);
-    let c = flow_walks::expire_flows(state, sizes, clock, slots);
+    let c = slot_walks::expire_slots(state, sizes, clock, start);
+    let c = flow_walks::expire_flows(state, sizes, clock, c);
     let h = state::head_at(state, sizes);
     put_clock(state, sizes, h, h.now, plan_check(clock, c.least));
     Ok(Next {
-        millis: c.least as u64,
+        millis: u64::from(c.least),
         expired: c.expired,
     })
 }
@@ -66,13 +63,11 @@ pub fn update(state: &mut [u8], sizes: Sizes, clock: u64) -> Result<Next, Error>
     if clock < h.now.clock {
         return Err(Error::InvalidInput);
     }
-    let last = h.now;
-    let stamp = last.update_clock(clock);
-    let planned = h.next_timeout;
-    put_clock(state, sizes, h, stamp, planned);
-    if clock < planned {
+    let stamp = h.now.update_clock(clock);
+    put_clock(state, sizes, h, stamp, h.next_timeout);
+    if clock < h.next_timeout {
         return Ok(Next {
-            millis: planned - clock,
+            millis: h.next_timeout - clock,
             expired: false,
         });
     }

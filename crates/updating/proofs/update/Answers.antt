@@ -29,12 +29,12 @@ put_clock-requires c =
     let m = ap (λ (t : EventStamp). t.clock) c.update_clock-stamp.ensures in
     (c.requires, c.head_at-h.ensures.0, omega (arith, c.head_at-h.ensures.1.soon))
 
-pub returns-then-clock-planned : goal.returns-then-clock-planned
+pub returns-then-clock-h-2 : goal.returns-then-clock-h-2
 unfolding update_of pick
-returns-then-clock-planned c =
+returns-then-clock-h-2 c =
     let st = stack_of c.args.sizes c.args.state.now in
     let k : st.head.now.clock ≤ c.args.clock = rw c.head_at-h.ensures.0 at c.if-clock-h.false in
-    let l : c.args.clock < st.head.next_timeout = rw c.head_at-h.ensures.0 at c.if-clock-planned.true in
+    let l : c.args.clock < st.head.next_timeout = rw c.head_at-h.ensures.0 at c.if-clock-h-2.true in
     let p = clock_put c.args.sizes c.args.state.now _ c.args.clock _ _ c.head_at-h.ensures.0 c.update_clock-stamp.ensures c.put_clock.ensures in
     rw (le-ltb c.args.clock st.head.now.clock k, lt-ltb c.args.clock st.head.next_timeout l) (ap (λ (t : Head). Ok (record { millis = (t.next_timeout - c.args.clock); expired = false })) c.head_at-h.ensures.0, p)
 
@@ -50,6 +50,6 @@ unfolding update_of pick
 returns c =
     let st = stack_of c.args.sizes c.args.state.now in
     let k : st.head.now.clock ≤ c.args.clock = rw c.head_at-h.ensures.0 at c.if-clock-h.false in
-    let l : st.head.next_timeout ≤ c.args.clock = rw c.head_at-h.ensures.0 at c.if-clock-planned.false in
+    let l : st.head.next_timeout ≤ c.args.clock = rw c.head_at-h.ensures.0 at c.if-clock-h-2.false in
     let p = clock_put c.args.sizes c.args.state.now _ c.args.clock _ _ c.head_at-h.ensures.0 c.update_clock-stamp.ensures c.put_clock.ensures in
     rw (le-ltb c.args.clock st.head.now.clock k, le-ltb c.args.clock st.head.next_timeout l) (then_says c.args.sizes (λ (u : Stack). (checked c.args.clock u).said) (λ (u : Stack). (checked c.args.clock u).stack) c.args.state.now _ _ (with_stamp (clocked c.args.clock st.head.now) st) _ p c.check.ensures)
