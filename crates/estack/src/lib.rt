@@ -22,17 +22,12 @@ use state::{Head, Sizes};
 pub use updating::update;
 
 // Makes a new stack in the front of a buffer; what lies past it stays.
+#[tactic(auto, unfolding(crate::specs::Basics::new_says, octets::specs::Pick::pick))]
 pub fn new(state: &mut [u8], sizes: Sizes, own: Eid, mtu: usize, clock: u64) -> Result<(), Error>
     ensures said { result ≡ new_says sizes (length state.old) mtu }
     ensures stack { NewMakes result sizes own mtu clock state.old state.new }
 {
-    if mtu < config::MIN_MTU {
-        return Err(Error::BadArgument);
-    }
-    if 255 < sizes.slots {
-        return Err(Error::BadArgument);
-    }
-    if 65535 < sizes.body {
+    if mtu < config::MIN_MTU || 255 < sizes.slots || 65535 < sizes.body {
         return Err(Error::BadArgument);
     }
     let size = state::SLOTS_AT + state::SLOT_WIDTH * sizes.slots;
@@ -87,6 +82,7 @@ pub fn is_local_dest(state: &[u8], sizes: Sizes, packet: &[u8]) -> bool
 }
 
 // Frees the replies of a peer and tag, and ends their flow.
+#[tactic(auto, using(state::proofs::StackLaws::stays), unfolding(crate::specs::Basics::cancel_of, octets::specs::Pick::pick))]
 pub fn cancel_flow(state: &mut [u8], sizes: Sizes, source: Eid, tag: TagValue) -> Result<(), Error>
     requires { Kept sizes state.old }
     ensures { (result ≡ (cancel_of source tag (stack_of sizes state.old)).said) × Becomes sizes state.old state.new (cancel_of source tag (stack_of sizes state.old)).stack }
