@@ -94,6 +94,7 @@ fn tag_for(
 }
 
 // Starts a send: a fragmenter for the message, or a refusal.
+#[tactic(auto, using(state::proofs::StackLaws::stays), unfolding(crate::specs::Sends::start_send_of, crate::specs::Sends::send_as, octets::specs::Pick::pick))]
 pub fn start_send(state: &mut [u8], sizes: Sizes, send: Send) -> Result<Fragmenter, Error>
     requires { Kept sizes state.old }
     ensures { (result ≡ (start_send_of send (stack_of sizes state.old)).said) × Becomes sizes state.old state.new (start_send_of send (stack_of sizes state.old)).stack }
