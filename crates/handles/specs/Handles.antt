@@ -1,7 +1,7 @@
 -- docs/RULES.md 72, 73, 76 and 78 to 82: fetch, finish, return, set cookie, and the deferred lookups.
 -- A handle is an index and an issue number.
 -- Leans on `slot` for a slot's part and the count of handles, on `state` for the stack.
-use Rattle.std.specs.Prelude.{ℕ, ◌*◌, ◌≡◌, Bool, true, false, List, [], ◌∷◌, ltb, length, set, Err, None, Ok, Option, Result, Some}
+use Rattle.std.specs.Prelude.{ℕ, ◌*◌, ◌<◌, ◌≡◌, Bool, true, false, List, [], ◌∷◌, ltb, length, set, Err, None, Ok, Option, Result, Some}
 use Rattle.octets.specs.Pick.{pick}
 use Rattle.mctp.specs.declared.Eid.{Eid}
 use Rattle.mctp.specs.declared.Tag.{Tag}
@@ -58,6 +58,7 @@ is_good h st = pick (ltb h.index (length st.slots)) (handle_is h.issue (slot_at 
 -- s is the slot under a good handle
 pub record IsUnder (B : ℕ) (h : ReceiveHandle) (st : Stack) (s : Reassembler) : Type 0 where
   pub good : is_good h st ≡ true
+  pub inside : h.index < length st.slots
   pub same : s ≡ slot_at h.index st
   pub ok : SlotOk B s
 

@@ -24,6 +24,7 @@ pub struct Message {
 }
 
 // The slot under a good handle: its handle is out, under this number. Any other handle is BadArgument.
+#[tactic(auto, using(state::proofs::StackLaws::slots_length), unfolding(crate::specs::Handles::is_good, octets::specs::Pick::pick))]
 fn good_slot(state: &[u8], sizes: Sizes, handle: ReceiveHandle) -> Result<Reassembler, Error>
     requires { Kept sizes state.now }
     ensures good { IfOk result (IsUnder sizes.body handle (stack_of sizes state.now)) }
@@ -41,6 +42,7 @@ fn good_slot(state: &[u8], sizes: Sizes, handle: ReceiveHandle) -> Result<Reasse
 }
 
 // The message under a handle; nothing changes.
+#[tactic(auto, using(state::proofs::StackLaws::slots_length, state::proofs::SizeLaws::pool_fits), unfolding(crate::specs::Handles::fetch_of, octets::specs::Pick::pick))]
 pub fn fetch_message(
     state: &[u8],
     sizes: Sizes,
@@ -65,6 +67,7 @@ pub fn fetch_message(
 }
 
 // Finishes the message: its slot becomes empty.
+#[tactic(auto, using(state::proofs::StackLaws::stays), unfolding(crate::specs::Handles::handled, octets::specs::Pick::pick))]
 pub fn finished_receive(state: &mut [u8], sizes: Sizes, handle: ReceiveHandle) -> Result<(), Error>
     requires { Kept sizes state.old }
     ensures { (result ≡ (finish_of handle (stack_of sizes state.old)).said) × Becomes sizes state.old state.new (finish_of handle (stack_of sizes state.old)).stack }
@@ -75,6 +78,7 @@ pub fn finished_receive(state: &mut [u8], sizes: Sizes, handle: ReceiveHandle) -
 }
 
 // Takes the handle back and keeps the message.
+#[tactic(auto, using(state::proofs::StackLaws::stays), unfolding(crate::specs::Handles::handled, octets::specs::Pick::pick))]
 pub fn return_handle(state: &mut [u8], sizes: Sizes, handle: ReceiveHandle) -> Result<(), Error>
     requires { Kept sizes state.old }
     ensures { (result ≡ (return_of handle (stack_of sizes state.old)).said) × Becomes sizes state.old state.new (return_of handle (stack_of sizes state.old)).stack }
@@ -85,6 +89,7 @@ pub fn return_handle(state: &mut [u8], sizes: Sizes, handle: ReceiveHandle) -> R
 }
 
 // Gives the slot of the handle another cookie, or none.
+#[tactic(auto, using(state::proofs::StackLaws::stays), unfolding(crate::specs::Handles::handled, octets::specs::Pick::pick))]
 pub fn set_cookie(
     state: &mut [u8],
     sizes: Sizes,
@@ -100,6 +105,7 @@ pub fn set_cookie(
 }
 
 // Gives out the handle of slot i, where there is a slot i.
+#[tactic(auto, using(state::proofs::StackLaws::slots_length, state::proofs::StackLaws::stays), unfolding(crate::specs::Handles::take_of, octets::specs::Pick::pick))]
 fn take(state: &mut [u8], sizes: Sizes, i: usize) -> Option<ReceiveHandle>
     requires { Kept sizes state.old }
     ensures { (result ≡ (take_of i (stack_of sizes state.old)).said) × Becomes sizes state.old state.new (take_of i (stack_of sizes state.old)).stack }
@@ -115,6 +121,7 @@ fn take(state: &mut [u8], sizes: Sizes, i: usize) -> Option<ReceiveHandle>
 }
 
 // The earliest message kept from that source under that tag.
+#[tactic(auto, using(state::proofs::StackLaws::stays), unfolding(crate::specs::Handles::by_source_of, octets::specs::Pick::pick))]
 pub fn get_deferred(state: &mut [u8], sizes: Sizes, source: Eid, tag: Tag) -> Option<ReceiveHandle>
     requires { Kept sizes state.old }
     ensures { (result ≡ (by_source_of source tag (stack_of sizes state.old)).said) × Becomes sizes state.old state.new (by_source_of source tag (stack_of sizes state.old)).stack }
