@@ -28,6 +28,7 @@ fn plan_check(clock: u64, least: u32) -> u64
     clock.saturating_add(u64::from(least))
 }
 
+#[tactic(auto, using(state::proofs::StackLaws::head_ok))]
 fn put_clock(state: &mut [u8], sizes: Sizes, h: Head, stamp: EventStamp, next_timeout: u64)
     requires { Kept sizes state.old × (h ≡ (stack_of sizes state.old).head) × (next_timeout ≤ stamp.clock + interval) }
     ensures { Becomes sizes state.old state.new (with_head (with_planned next_timeout (with_now stamp h)) (stack_of sizes state.old)) }
@@ -36,6 +37,7 @@ fn put_clock(state: &mut [u8], sizes: Sizes, h: Head, stamp: EventStamp, next_ti
 }
 
 // The check itself: slots and flows expire, and the next check is planned.
+#[tactic(auto, using(crate::proofs::Times::least_soon), unfolding(crate::specs::Update::checked))]
 fn check(state: &mut [u8], sizes: Sizes, clock: u64) -> Result<Next, Error>
     requires { Kept sizes state.old × (clock ≡ (stack_of sizes state.old).head.now.clock) }
     ensures { (result ≡ (checked clock (stack_of sizes state.old)).said) × Becomes sizes state.old state.new (checked clock (stack_of sizes state.old)).stack }
@@ -55,6 +57,7 @@ fn check(state: &mut [u8], sizes: Sizes, clock: u64) -> Result<Next, Error>
 }
 
 // Takes the clock. Where the planned check is reached, slots and flows expire.
+#[tactic(auto, using(state::proofs::StackLaws::stays, crate::proofs::Times::clock_taken), unfolding(crate::specs::Update::update_of, octets::specs::Pick::pick))]
 pub fn update(state: &mut [u8], sizes: Sizes, clock: u64) -> Result<Next, Error>
     requires { Kept sizes state.old }
     ensures { (result ≡ (update_of clock (stack_of sizes state.old)).said) × Becomes sizes state.old state.new (update_of clock (stack_of sizes state.old)).stack }
