@@ -6,33 +6,33 @@
 
 ghost use Rattle.std.specs.Prelude.{◌≡◌, ◌≤◌, ◌<◌};
 ghost use Rattle.octets.specs.Bytes.{le};
-ghost use Rattle.mctp.specs.Terms.{normal_eid, error_no, tag_of, is_owner, tag_under, same_bool, cookie_no, cookie_value, cookie_of};
+ghost use Rattle.mctp.specs.Terms.{normal_eid, error_no, tag_of, is_owner, tag_under, cookie_no, cookie_value, cookie_of};
 ghost use Rattle.mctp.specs.Header.{header_of, header_bytes, bit, type_byte, type_of, lead, flags_of};
 
-#[derive(Clone, Copy)]
+#[derive(Clone, Copy, Debug, PartialEq, Eq)]
 pub struct Eid(pub u8);
 
-#[derive(Clone, Copy)]
+#[derive(Clone, Copy, Debug, PartialEq, Eq)]
 pub struct TagValue(pub u8);
 
-#[derive(Clone, Copy)]
+#[derive(Clone, Copy, Debug, PartialEq, Eq)]
 pub struct MsgType(pub u8);
 
-#[derive(Clone, Copy)]
+#[derive(Clone, Copy, Debug, PartialEq, Eq)]
 pub struct MsgIC(pub bool);
 
-#[derive(Clone, Copy)]
+#[derive(Clone, Copy, Debug, PartialEq, Eq)]
 pub struct AppCookie(pub u64);
 
 // A tag, and whose it is: an owned tag has TO=1 on the wire.
-#[derive(Clone, Copy)]
+#[derive(Clone, Copy, Debug, PartialEq, Eq)]
 pub enum Tag {
     Owned(TagValue),
     Unowned(TagValue),
 }
 
 // The refusals (docs/RULES.md 13); `number` gives each its number.
-#[derive(Clone, Copy)]
+#[derive(Clone, Copy, Debug, PartialEq, Eq)]
 pub enum Error {
     InvalidInput,
     NoSpace,
@@ -43,7 +43,7 @@ pub enum Error {
 }
 
 // A packet's key, which tells the message that the packet belongs to.
-#[derive(Clone, Copy)]
+#[derive(Clone, Copy, Debug, PartialEq, Eq)]
 pub struct Key {
     pub source: Eid,
     pub dest: Eid,
@@ -51,7 +51,7 @@ pub struct Key {
     pub tag: TagValue,
 }
 
-#[derive(Clone, Copy)]
+#[derive(Clone, Copy, Debug, PartialEq, Eq)]
 pub struct Header {
     pub key: Key,
     pub som: bool,
@@ -59,7 +59,7 @@ pub struct Header {
     pub seq: u8,
 }
 
-#[derive(Clone, Copy)]
+#[derive(Clone, Copy, Debug, PartialEq, Eq)]
 pub struct TypeIC {
     pub typ: MsgType,
     pub ic: MsgIC,
@@ -100,18 +100,14 @@ impl Tag {
         ensures { result ≡ tag_of self }
     {
         match self {
-            Tag::Owned(t) => t,
-            Tag::Unowned(t) => t,
+            Tag::Owned(t) | Tag::Unowned(t) => t,
         }
     }
 
     pub fn is_owner(self) -> bool
         ensures { result ≡ is_owner self }
     {
-        match self {
-            Tag::Owned(_) => true,
-            Tag::Unowned(_) => false,
-        }
+        matches!(self, Tag::Owned(_))
     }
 }
 
@@ -119,28 +115,19 @@ impl Tag {
 pub fn cookie_no(c: Option<AppCookie>) -> u8
     ensures { (result ≡ cookie_no c) × (result < 2) }
 {
-    match c {
-        None => 0,
-        Some(_) => 1,
-    }
+    u8::from(c.is_some())
 }
 
 pub fn cookie_value(c: Option<AppCookie>) -> u64
     ensures { result ≡ cookie_value c }
 {
-    match c {
-        None => 0,
-        Some(c) => c.0,
-    }
+    c.map_or(0, |c| c.0)
 }
 
 pub fn cookie_of(present: u8, value: u64) -> Option<AppCookie>
     ensures { result ≡ cookie_of present value }
 {
-    if present == 1 {
-        return Some(AppCookie(value));
-    }
-    None
+    (present == 1).then_some(AppCookie(value))
 }
 
 impl Error {
@@ -156,15 +143,6 @@ impl Error {
             Error::PoolShort => 6,
         }
     }
-}
-
-pub fn same_bool(a: bool, b: bool) -> bool
-    ensures { result ≡ same_bool a b }
-{
-    if a {
-        return b;
-    }
-    !b
 }
 
 // `n` where the bit is set, else 0.
@@ -192,13 +170,13 @@ pub fn read_header(packet: &[u8]) -> Option<Header>
     let b = packet[3];
     let tag = TagValue(b % 8);
     let key = Key {
-        source: source,
-        dest: dest,
+        source,
+        dest,
         owner: b / 8 % 2 == 1,
-        tag: tag,
+        tag,
     };
     Some(Header {
-        key: key,
+        key,
         som: b / 128 == 1,
         eom: b / 64 % 2 == 1,
         seq: b / 16 % 4,
@@ -232,7 +210,7 @@ pub fn encode_header(h: Header) -> u32
     let b = flags(h);
     let dest = h.key.dest.0;
     let source = h.key.source.0;
-    1 + 256 * (dest as u32 + 256 * (source as u32 + 256 * (b as u32)))
+    1 + 256 * (u32::from(dest) + 256 * (u32::from(source) + 256 * u32::from(b)))
 }
 
 pub fn encode_type_ic(typ: MsgType, ic: MsgIC) -> u8
@@ -247,5 +225,5 @@ pub fn decode_type_ic(b: u8) -> TypeIC
 {
     let typ = MsgType(b % 128);
     let ic = MsgIC(b / 128 == 1);
-    TypeIC { typ: typ, ic: ic }
+    TypeIC { typ, ic }
 }

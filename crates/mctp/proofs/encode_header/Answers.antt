@@ -10,5 +10,6 @@ pub returns : goal.returns
 returns c =
     let f = c.flags-b in
     let k = c.args.h.key in
-    le_four 1 k.dest.0 k.source.0 f.result (omega arith) (omega arith) (omega arith) (omega arith)
-    ∙ ap (λ (b : ℕ). 1 ∷ k.dest.0 ∷ k.source.0 ∷ b ∷ []) f.ensures
+    rw (c.from.ensures, c.from-2.ensures, c.from-3.ensures)
+    (le_four 1 k.dest.0 k.source.0 f.result (omega arith) (omega arith) (omega arith) (omega arith)
+    ∙ ap (λ (b : ℕ). 1 ∷ k.dest.0 ∷ k.source.0 ∷ b ∷ []) f.ensures)
