@@ -2,18 +2,10 @@
 use Prim.Native.Nat.{◌<◌}
 use native.Mathlib.Omega.{arith}
 use mathlib.Core.Path.{◌≡◌, refl}
-use mathlib.Core.Bool.{Bool, true, false}
 use Rattle.std.specs.Prelude.{None, Option, Some}
-use Rattle.std.specs.Bool.{then_some}
 use Rattle.octets.specs.Pick.{pick}
 use Rattle.mctp.specs.Terms.{cookie_no, cookie_value, cookie_of}
 use Rattle.mctp.specs.declared.AppCookie.{AppCookie}
-
--- `then_some` is a choice with nothing on its other side
-pub then_some-pick : {A : Type 0} (b : Bool) (x : A) → then_some b x ≡ pick b (Some x) None
-unfolding pick
-then_some-pick true x = refl
-then_some-pick false x = refl
 
 pub cookie_back : (c : Option AppCookie) → cookie_of (cookie_no c) (cookie_value c) ≡ c
 unfolding cookie_of pick

@@ -73,6 +73,7 @@ impl Eid {
     pub const ANY: Eid = Eid(255);
 
     // An EID that an endpoint can have as its own: 8 to 254.
+    #[tactic(auto, unfolding(octets::specs::Pick::pick, crate::specs::Terms::normal_eid))]
     pub fn new_normal(eid: u8) -> Result<Eid, Error>
         ensures { result ≡ normal_eid eid }
     {
@@ -87,6 +88,7 @@ impl Eid {
 }
 
 impl Tag {
+    #[tactic(auto, unfolding(octets::specs::Pick::pick, crate::specs::Terms::tag_under))]
     pub fn of(owner: bool, tag: TagValue) -> Tag
         ensures { result ≡ tag_under owner tag }
     {
@@ -124,6 +126,7 @@ pub fn cookie_value(c: Option<AppCookie>) -> u64
     c.map_or(0, |c| c.0)
 }
 
+#[tactic(auto, unfolding(octets::specs::Pick::pick, crate::specs::Terms::cookie_of))]
 pub fn cookie_of(present: u8, value: u64) -> Option<AppCookie>
     ensures { result ≡ cookie_of present value }
 {
@@ -156,6 +159,7 @@ pub fn bit_of(set: bool, n: u8) -> u8
 }
 
 // The header of a packet; it is bad when the packet has under 4 bytes or another version.
+#[tactic(auto, unfolding(octets::specs::Pick::pick, crate::specs::Header::header_of))]
 pub fn read_header(packet: &[u8]) -> Option<Header>
     ensures { result ≡ header_of packet.now }
 {
@@ -204,6 +208,7 @@ pub fn body_start(som: bool) -> usize
 }
 
 // The four bytes of a header as one number, byte 0 lowest.
+#[tactic(auto, using(crate::proofs::Wire::le_four))]
 pub fn encode_header(h: Header) -> u32
     ensures { le 4 result ≡ header_bytes h }
 {
