@@ -10,13 +10,13 @@ ghost use Rattle.flows.specs.Tags.{marked};
 ghost use Rattle.flows.specs.Table.{no_flow, lasts, new_flow, flow_timeout};
 ghost use Rattle.flows.specs.Codec.{expiry_no, expiry_stamp, expiry_of, flow_of, flow_bytes, flow_row, FlowOk};
 
-use mctp::{Eid, Error, TagValue, AppCookie};
+use mctp::{AppCookie, Eid, Error, TagValue};
 use octets::{get1, get4, get8, put1, put2, put8};
 use stamp::{EventStamp, Timeout};
 
 pub mod tags; // tags.rt: tags as bits of a byte, and the search for a free one
 
-#[derive(Clone, Copy)]
+#[derive(Clone, Copy, Debug, PartialEq, Eq)]
 pub struct Flow {
     pub used: bool,
     pub peer: Eid,
@@ -29,36 +29,32 @@ pub struct Flow {
 pub fn no_flow() -> Flow
     ensures { result ≡ no_flow }
 {
-    let peer = Eid(0);
-    let tag = TagValue(0);
     Flow {
         used: false,
-        peer: peer,
-        tag: tag,
+        peer: Eid(0),
+        tag: TagValue(0),
         cookie: None,
         expiry: None,
     }
 }
 
 // A new flow; one that expires is stamped.
-pub fn new_flow(peer: Eid, tag: TagValue, expires: bool, cookie: Option<AppCookie>, stamp: EventStamp) -> Flow
+#[tactic(auto, unfolding(octets::specs::Pick::pick, crate::specs::Table::new_flow))]
+pub fn new_flow(
+    peer: Eid,
+    tag: TagValue,
+    expires: bool,
+    cookie: Option<AppCookie>,
+    stamp: EventStamp,
+) -> Flow
     ensures { result ≡ new_flow peer tag expires cookie stamp }
 {
-    if expires {
-        return Flow {
-            used: true,
-            peer: peer,
-            tag: tag,
-            cookie: cookie,
-            expiry: Some(stamp),
-        };
-    }
     Flow {
         used: true,
-        peer: peer,
-        tag: tag,
-        cookie: cookie,
-        expiry: None,
+        peer,
+        tag,
+        cookie,
+        expiry: expires.then_some(stamp),
     }
 }
 
@@ -67,33 +63,26 @@ impl Flow {
     pub fn is_lasting(self) -> bool
         ensures { result ≡ lasts self }
     {
-        let expiry = self.expiry;
-        match expiry {
-            None => true,
-            Some(_) => false,
-        }
+        self.expiry.is_none()
     }
 
     // What is left of the flow's time.
     pub fn check_expired(self, now: u64) -> Timeout
         ensures { result ≡ flow_timeout now self }
     {
-        let expiry = self.expiry;
-        match expiry {
+        match self.expiry {
             None => Timeout::Untimed,
             Some(s) => s.check_timeout(now, config::FLOW_EXPIRY_TIMEOUT),
         }
     }
 
     // The used-tag byte of a peer, with this flow's tag added where the flow is that peer's.
+    #[tactic(auto, unfolding(octets::specs::Pick::pick, crate::specs::Tags::marked))]
     pub fn mark(self, peer: Eid, used: u8) -> u8
         requires { FlowOk self }
         ensures { result ≡ marked peer self used }
     {
-        if self.used {
-            if self.peer.0 != peer.0 {
-                return used;
-            }
+        if self.used && self.peer == peer {
             return tags::set_bit(self.tag.0, used);
         }
         used
@@ -105,38 +94,27 @@ impl Flow {
 fn expiry_no(e: Option<EventStamp>) -> u8
     ensures { (result ≡ expiry_no e) × (result < 2) }
 {
-    match e {
-        None => 0,
-        Some(_) => 1,
-    }
+    u8::from(e.is_some())
 }
 
 fn expiry_stamp(e: Option<EventStamp>) -> EventStamp
     ensures { result ≡ expiry_stamp e }
 {
-    match e {
-        None => EventStamp {
-            clock: 0,
-            counter: 0,
-        },
-        Some(s) => s,
-    }
+    e.unwrap_or(EventStamp {
+        clock: 0,
+        counter: 0,
+    })
 }
 
+#[tactic(auto, unfolding(octets::specs::Pick::pick, crate::specs::Codec::expiry_of))]
 fn expiry_of(n: u8, clock: u64, counter: u32) -> Option<EventStamp>
     ensures { result ≡ expiry_of n clock counter }
 {
-    if n == 1 {
-        let s = EventStamp {
-            clock: clock,
-            counter: counter,
-        };
-        return Some(s);
-    }
-    None
+    (n == 1).then_some(EventStamp { clock, counter })
 }
 
 // The flow that `b` starts with; a byte past its end counts as 0.
+#[tactic(auto, unfolding(crate::specs::Codec::flow_of))]
 pub fn read_flow(b: &[u8]) -> Flow
     ensures { result ≡ flow_of b.now }
 {
@@ -152,13 +130,14 @@ pub fn read_flow(b: &[u8]) -> Flow
     let expiry = expiry_of(kind, clock, counter);
     Flow {
         used: used == 1,
-        peer: peer,
-        tag: tag,
-        cookie: cookie,
-        expiry: expiry,
+        peer,
+        tag,
+        cookie,
+        expiry,
     }
 }
 
+#[tactic(auto, unfolding(octets::specs::Bytes::puts))]
 fn write_fields(
     b: &mut [u8],
     used: u8,
@@ -179,24 +158,23 @@ fn write_fields(
     put2(b, 6, kind);
     put8(b, 8, value);
     put8(b, 16, clock);
-    put8(b, 24, counter as u64);
+    put8(b, 24, u64::from(counter));
 }
 
 // Writes the flow's bytes over the front of `b`, as far as they fit.
+#[tactic(auto, unfolding(crate::specs::Codec::flow_bytes))]
 pub fn write_flow(b: &mut [u8], f: Flow)
     ensures { b.new ≡ lay 0 (flow_bytes f) b.old }
 {
-    let c = f.cookie;
-    let e = f.expiry;
-    let t = expiry_stamp(e);
+    let t = expiry_stamp(f.expiry);
     write_fields(
         b,
-        mctp::bit_of(f.used, 1),
+        u8::from(f.used),
         f.peer.0,
-        f.tag.0 as u16,
-        mctp::cookie_no(c) as u16,
-        expiry_no(e) as u16,
-        mctp::cookie_value(c),
+        u16::from(f.tag.0),
+        u16::from(mctp::cookie_no(f.cookie)),
+        u16::from(expiry_no(f.expiry)),
+        mctp::cookie_value(f.cookie),
         t.clock,
         t.counter,
     );
