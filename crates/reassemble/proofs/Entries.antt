@@ -13,7 +13,6 @@ use Rattle.octets.specs.Pick.{pick, pick_true, pick_false, pick_cases}
 use Rattle.octets.proofs.Bools.{no_both}
 use Rattle.mctp.specs.declared.Header.{Header}
 use Rattle.mctp.specs.declared.Error.{Error}
-use Rattle.mctp.specs.declared.Error.TheVariants.{InvalidInput, NoSpace}
 use Rattle.stamp.specs.declared.EventStamp.{EventStamp}
 use Rattle.slot.specs.declared.Reassembler.{Reassembler}
 use Rattle.reassemble.specs.declared.Intake.{Intake}
