@@ -49,5 +49,5 @@ pub fn free_tag(used: u8, start: u8) -> Option<TagValue>
 pub fn free_tags(used: u8) -> u8
     ensures { result ≡ free_count used }
 {
-    8 - u8::count_ones(used) as u8
+    8 - used.count_ones() as u8
 }

@@ -93,9 +93,10 @@ impl Tag {
         ensures { result ≡ tag_under owner tag }
     {
         if owner {
-            return Tag::Owned(tag);
+            Tag::Owned(tag)
+        } else {
+            Tag::Unowned(tag)
         }
-        Tag::Unowned(tag)
     }
 
     pub fn tag(self) -> TagValue
@@ -152,10 +153,7 @@ impl Error {
 pub fn bit_of(set: bool, n: u8) -> u8
     ensures { (result ≡ bit set n) × (result ≤ n) }
 {
-    if set {
-        return n;
-    }
-    0
+    if set { n } else { 0 }
 }
 
 // The header of a packet; it is bad when the packet has under 4 bytes or another version.
@@ -169,15 +167,12 @@ pub fn read_header(packet: &[u8]) -> Option<Header>
     if packet[0] % 16 != 1 {
         return None;
     }
-    let dest = Eid(packet[1]);
-    let source = Eid(packet[2]);
     let b = packet[3];
-    let tag = TagValue(b % 8);
     let key = Key {
-        source,
-        dest,
+        source: Eid(packet[2]),
+        dest: Eid(packet[1]),
         owner: b / 8 % 2 == 1,
-        tag,
+        tag: TagValue(b % 8),
     };
     Some(Header {
         key,
@@ -201,10 +196,7 @@ pub fn flags(h: Header) -> u8
 pub fn body_start(som: bool) -> usize
     ensures { result ≡ lead som }
 {
-    if som {
-        return 5;
-    }
-    4
+    if som { 5 } else { 4 }
 }
 
 // The four bytes of a header as one number, byte 0 lowest.
@@ -221,14 +213,14 @@ pub fn encode_header(h: Header) -> u32
 pub fn encode_type_ic(typ: MsgType, ic: MsgIC) -> u8
     ensures { result ≡ type_byte typ ic }
 {
-    let i = bit_of(ic.0, 128);
-    i + typ.0 % 128
+    bit_of(ic.0, 128) + typ.0 % 128
 }
 
 pub fn decode_type_ic(b: u8) -> TypeIC
     ensures { result ≡ type_of b }
 {
-    let typ = MsgType(b % 128);
-    let ic = MsgIC(b / 128 == 1);
-    TypeIC { typ, ic }
+    TypeIC {
+        typ: MsgType(b % 128),
+        ic: MsgIC(b / 128 == 1),
+    }
 }

@@ -51,16 +51,12 @@ pub struct Reassembler {
 pub fn blank() -> Reassembler
     ensures { result ≡ blank_slot }
 {
-    let eid = Eid(0);
-    let tag = TagValue(0);
     let key = Key {
-        source: eid,
-        dest: eid,
+        source: Eid(0),
+        dest: Eid(0),
         owner: false,
-        tag,
+        tag: TagValue(0),
     };
-    let typ = MsgType(0);
-    let ic = MsgIC(false);
     let stamp = EventStamp {
         clock: 0,
         counter: 0,
@@ -68,8 +64,8 @@ pub fn blank() -> Reassembler
     Reassembler {
         state: State::Empty,
         key,
-        typ,
-        ic,
+        typ: MsgType(0),
+        ic: MsgIC(false),
         next_seq: 0,
         len: 0,
         cookie: None,
