@@ -101,9 +101,9 @@ fn write_plan(plan: Plan, payload: &[u8], out: &mut [u8])
     };
     if c.header.som {
         write_first(out, c.header, c.kind, payload, c.from, c.len);
-        return;
+    } else {
+        write_later(out, c.header, payload, c.from, c.len);
     }
-    write_later(out, c.header, payload, c.from, c.len);
 }
 
 impl Plan {
@@ -144,16 +144,10 @@ impl Fragmenter {
     ) -> Result<Fragmenter, Error>
         ensures { result ≡ new_of typ src dest tag mtu cookie ic seq }
     {
-        if 7 < tag.tag().0 {
+        if tag.tag().0 > 7 || typ.0 > 127 {
             return Err(Error::InvalidInput);
         }
-        if 127 < typ.0 {
-            return Err(Error::InvalidInput);
-        }
-        if mtu < config::MIN_MTU {
-            return Err(Error::BadArgument);
-        }
-        if config::MAX_MTU < mtu {
+        if !(config::MIN_MTU..=config::MAX_MTU).contains(&mtu) {
             return Err(Error::BadArgument);
         }
         Ok(Fragmenter {

@@ -77,13 +77,11 @@ impl Eid {
     pub fn new_normal(eid: u8) -> Result<Eid, Error>
         ensures { result ≡ normal_eid eid }
     {
-        if eid < 8 {
-            return Err(Error::InvalidInput);
+        if (8..=254).contains(&eid) {
+            Ok(Eid(eid))
+        } else {
+            Err(Error::InvalidInput)
         }
-        if 254 < eid {
-            return Err(Error::InvalidInput);
-        }
-        Ok(Eid(eid))
     }
 }
 
