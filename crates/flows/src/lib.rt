@@ -5,10 +5,10 @@
 #![tactic(auto)]
 
 ghost use Rattle.std.specs.Prelude.{◌≡◌, ◌<◌};
-ghost use Rattle.octets.specs.Bytes.{lay, puts};
+ghost use Rattle.octets.specs.Bytes.{lay};
 ghost use Rattle.flows.specs.Tags.{marked};
 ghost use Rattle.flows.specs.Table.{no_flow, lasts, new_flow, flow_timeout};
-ghost use Rattle.flows.specs.Codec.{expiry_no, expiry_stamp, expiry_of, flow_of, flow_bytes, flow_row, FlowOk};
+ghost use Rattle.flows.specs.Codec.{expiry_no, expiry_stamp, expiry_of, flow_of, flow_bytes, FlowOk};
 
 use mctp::{AppCookie, Eid, Error, TagValue};
 use octets::{get1, get4, get8, put1, put2, put8};
@@ -118,47 +118,13 @@ fn expiry_of(n: u8, clock: u64, counter: u32) -> Option<EventStamp>
 pub fn read_flow(b: &[u8]) -> Flow
     ensures { result ≡ flow_of b.now }
 {
-    let used = get1(b, 0);
-    let peer = Eid(get1(b, 1));
-    let tag = TagValue(get1(b, 2));
-    let has = get1(b, 4);
-    let kind = get1(b, 6);
-    let value = get8(b, 8);
-    let clock = get8(b, 16);
-    let counter = get4(b, 24);
-    let cookie = mctp::cookie_of(has, value);
-    let expiry = expiry_of(kind, clock, counter);
     Flow {
-        used: used == 1,
-        peer,
-        tag,
-        cookie,
-        expiry,
+        used: get1(b, 0) == 1,
+        peer: Eid(get1(b, 1)),
+        tag: TagValue(get1(b, 2)),
+        cookie: mctp::cookie_of(get1(b, 4), get8(b, 8)),
+        expiry: expiry_of(get1(b, 6), get8(b, 16), get4(b, 24)),
     }
-}
-
-#[tactic(auto, unfolding(octets::specs::Bytes::puts))]
-fn write_fields(
-    b: &mut [u8],
-    used: u8,
-    peer: u8,
-    tag: u16,
-    has: u16,
-    kind: u16,
-    value: u64,
-    clock: u64,
-    counter: u32,
-)
-    ensures { b.new ≡ puts 0 (flow_row used peer tag has kind value clock counter) b.old }
-{
-    put1(b, 0, used);
-    put1(b, 1, peer);
-    put2(b, 2, tag);
-    put2(b, 4, has);
-    put2(b, 6, kind);
-    put8(b, 8, value);
-    put8(b, 16, clock);
-    put8(b, 24, u64::from(counter));
 }
 
 // Writes the flow's bytes over the front of `b`, as far as they fit.
@@ -167,15 +133,12 @@ pub fn write_flow(b: &mut [u8], f: Flow)
     ensures { b.new ≡ lay 0 (flow_bytes f) b.old }
 {
     let t = expiry_stamp(f.expiry);
-    write_fields(
-        b,
-        u8::from(f.used),
-        f.peer.0,
-        u16::from(f.tag.0),
-        u16::from(mctp::cookie_no(f.cookie)),
-        u16::from(expiry_no(f.expiry)),
-        mctp::cookie_value(f.cookie),
-        t.clock,
-        t.counter,
-    );
+    put1(b, 0, u8::from(f.used));
+    put1(b, 1, f.peer.0);
+    put2(b, 2, u16::from(f.tag.0));
+    put2(b, 4, u16::from(mctp::cookie_no(f.cookie)));
+    put2(b, 6, u16::from(expiry_no(f.expiry)));
+    put8(b, 8, mctp::cookie_value(f.cookie));
+    put8(b, 16, t.clock);
+    put8(b, 24, u64::from(t.counter));
 }
