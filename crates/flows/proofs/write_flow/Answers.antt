@@ -15,6 +15,6 @@ byte-bit false = refl
 pub returns : goal.returns
 unfolding flow_bytes puts
 returns c =
-    rw (c.put8-3.ensures, c.put8-2.ensures, c.put8.ensures, c.put2-3.ensures, c.put2-2.ensures, c.put2.ensures, c.put1-2.ensures, c.put1.ensures)
+    rw (c.put-8.ensures, c.put-7.ensures, c.put-6.ensures, c.put-5.ensures, c.put-4.ensures, c.put-3.ensures, c.put-2.ensures, c.put.ensures)
     (rw (c.from.ensures ∙ byte-bit _, c.from-2.ensures, c.from-3.ensures, c.from-4.ensures, c.from-5.ensures, c.cookie_no.ensures.0, c.expiry_no.ensures.0, c.cookie_value.ensures, c.expiry_stamp-t.ensures)
     (puts-lay 0 (flow_fields c.args.f) c.args.b.now))
