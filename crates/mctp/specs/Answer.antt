@@ -1,5 +1,5 @@
--- An answer in numbers (docs/RULES.md 14): 0 with what else is told, or a refusal's number. Each enum that is the answer of a call has one definition
--- of this kind, in its own crate, named after it (`received_as`, `updated_as`, ..): the exported calls answer by it, and the promises speak of it.
+-- An answer in numbers (docs/RULES.md 14): 0 with what else is told, or a refusal's number. What a call gives, a `Result`, an `Option` or an enum, has one definition
+-- of this kind, in the crate of the call (`received_as`, `updated_as`, ..): the exported calls answer by it, and the promises speak of it.
 -- Leans on nothing.
 use Rattle.std.specs.Prelude.{ℕ, Bool, true, false, List, [], ◌∷◌, replicate}
 

@@ -1,4 +1,4 @@
--- `Cookie::of` is `cookie_of`.
+-- `cookie_of` tests the number as its definition does.
 use Rattle.octets.proofs.Tests.{picks}
 use Rattle.mctp.specs.Terms.{cookie_of}
 use Rattle.mctp.proofs.cookie_of.Goals as goal
