@@ -15,10 +15,9 @@ ghost use Rattle.rows.specs.Answers.{length_after, stepped_after};
 ghost use Rattle.board.specs.Board.{board, start_of};
 
 use estack::ReceiveHandle;
-use mctp::{Eid, TagValue};
+use mctp::{Eid, Error, TagValue};
 use rows::{
-    cookie_from, done_no, fragmenter_of, is_good_send, put_deferred, put_message, put_next,
-    put_received, put_started, put_step, send_of, tag_from,
+    Row, cookie_from, done_no, fragmenter_of, is_good_send, put, put_step, send_of, tag_from,
 };
 use state::Sizes;
 
@@ -67,12 +66,14 @@ pub fn hyphaloom_start_send(state: &mut [u8], send: &[u64; 10], fragmenter: &mut
     ensures stack { Becomes board state.old state.new (start_of send.now (stack_of board state.old)).stack }
     ensures fragmenter { fragmenter.new ≡ row_after 13 (started_as (start_of send.now (stack_of board state.old)).said) fragmenter.old }
 {
-    let good = is_good_send(send);
-    if good {
-        let started = estack::start_send(state, Sizes::BOARD, send_of(send));
-        return put_started(fragmenter, started);
+    if is_good_send(send) {
+        put(
+            fragmenter,
+            estack::start_send(state, Sizes::BOARD, send_of(send)),
+        )
+    } else {
+        Error::InvalidInput.number()
     }
-    1
 }
 
 // One step: it leaves a packet of `len` bytes at the front of the buffer; `len` 0 says that all is sent.
@@ -89,9 +90,7 @@ pub fn hyphaloom_fragment(
 {
     let f = fragmenter_of(fragmenter);
     let plan = f.plan(payload.len(), out.len());
-    let next = plan.next(f);
-    let output = plan.output();
-    let said = put_step(fragmenter, len, next, output);
+    let said = put_step(fragmenter, len, plan.next(f), plan.output());
     f.write(payload, out);
     said
 }
@@ -103,8 +102,7 @@ pub fn hyphaloom_update(state: &mut [u8], clock: u64, next: &mut [u64; 2]) -> u8
     ensures stack { Becomes board state.old state.new (update_of clock (stack_of board state.old)).stack }
     ensures next { next.new ≡ row_after 2 (updated_as (update_of clock (stack_of board state.old)).said) next.old }
 {
-    let updated = estack::update(state, Sizes::BOARD, clock);
-    put_next(next, updated)
+    put(next, estack::update(state, Sizes::BOARD, clock))
 }
 
 // Receives a packet, and leaves the handle of the message that it ends, or issue 0 where more is to come.
@@ -120,8 +118,7 @@ pub fn hyphaloom_receive(
     ensures pool { pool.new ≡ over (receive_of 1032 (stack_of board state.old) (length pool.old) packet.now).at (receive_of 1032 (stack_of board state.old) (length pool.old) packet.now).bytes pool.old }
     ensures handle { handle.new ≡ row_after 2 (received_as (receive_of 1032 (stack_of board state.old) (length pool.old) packet.now).said) handle.old }
 {
-    let received = estack::receive(state, Sizes::BOARD, pool, packet);
-    put_received(handle, received)
+    put(handle, estack::receive(state, Sizes::BOARD, pool, packet))
 }
 
 // The earliest message kept from that source under that tag: its handle, or issue 0 where there is none.
@@ -136,9 +133,8 @@ pub fn hyphaloom_get_deferred(
     ensures stack { Becomes board state.old state.new (by_source_of (record { 0 = source }) (tag_from (is_yes owner) tag) (stack_of board state.old)).stack }
     ensures handle { handle.new ≡ row_after 2 (deferred_as (by_source_of (record { 0 = source }) (tag_from (is_yes owner) tag) (stack_of board state.old)).said) handle.old }
 {
-    let t = tag_from(0 < owner, tag);
-    let found = estack::get_deferred(state, Sizes::BOARD, Eid(source), t);
-    put_deferred(handle, found);
+    let tag = tag_from(0 < owner, tag);
+    *handle = estack::get_deferred(state, Sizes::BOARD, Eid(source), tag).words();
 }
 
 // The earliest message kept whose cookie is one of the list.
@@ -147,17 +143,7 @@ pub fn hyphaloom_get_deferred_bycookie(state: &mut [u8], cookies: &[u64], handle
     ensures stack { Becomes board state.old state.new (by_cookie_of cookies.now (stack_of board state.old)).stack }
     ensures handle { handle.new ≡ row_after 2 (deferred_as (by_cookie_of cookies.now (stack_of board state.old)).said) handle.old }
 {
-    let found = estack::get_deferred_bycookie(state, Sizes::BOARD, cookies);
-    put_deferred(handle, found);
-}
-
-fn handle_of(index: usize, issue: u64) -> ReceiveHandle
-    ensures { result ≡ record { index = index; issue = issue } }
-{
-    ReceiveHandle {
-        index: index,
-        issue: issue,
-    }
+    *handle = estack::get_deferred_bycookie(state, Sizes::BOARD, cookies).words();
 }
 
 // The message under a handle: its body is `len` bytes of the pool from byte `at`.
@@ -172,9 +158,11 @@ pub fn hyphaloom_fetch_message(
     ensures said { result ≡ answer_no (fetched_as (fetch_of 1032 (record { index = index; issue = issue }) (stack_of board state.now) (length pool.now))) }
     ensures message { message.new ≡ row_after 10 (fetched_as (fetch_of 1032 (record { index = index; issue = issue }) (stack_of board state.now) (length pool.now))) message.old }
 {
-    let handle = handle_of(index, issue);
-    let fetched = estack::fetch_message(state, Sizes::BOARD, pool, handle);
-    put_message(message, fetched)
+    let handle = ReceiveHandle { index, issue };
+    put(
+        message,
+        estack::fetch_message(state, Sizes::BOARD, pool, handle),
+    )
 }
 
 pub fn hyphaloom_finished_receive(state: &mut [u8], index: usize, issue: u64) -> u8
@@ -182,7 +170,7 @@ pub fn hyphaloom_finished_receive(state: &mut [u8], index: usize, issue: u64) ->
     ensures said { result ≡ answer_no (done_as (finish_of (record { index = index; issue = issue }) (stack_of board state.old)).said) }
     ensures stack { Becomes board state.old state.new (finish_of (record { index = index; issue = issue }) (stack_of board state.old)).stack }
 {
-    let handle = handle_of(index, issue);
+    let handle = ReceiveHandle { index, issue };
     done_no(estack::finished_receive(state, Sizes::BOARD, handle))
 }
 
@@ -191,7 +179,7 @@ pub fn hyphaloom_return_handle(state: &mut [u8], index: usize, issue: u64) -> u8
     ensures said { result ≡ answer_no (done_as (return_of (record { index = index; issue = issue }) (stack_of board state.old)).said) }
     ensures stack { Becomes board state.old state.new (return_of (record { index = index; issue = issue }) (stack_of board state.old)).stack }
 {
-    let handle = handle_of(index, issue);
+    let handle = ReceiveHandle { index, issue };
     done_no(estack::return_handle(state, Sizes::BOARD, handle))
 }
 
@@ -206,9 +194,9 @@ pub fn hyphaloom_set_cookie(
     ensures said { result ≡ answer_no (done_as (set_cookie_of (record { index = index; issue = issue }) (cookie_from (is_yes has_cookie) cookie) (stack_of board state.old)).said) }
     ensures stack { Becomes board state.old state.new (set_cookie_of (record { index = index; issue = issue }) (cookie_from (is_yes has_cookie) cookie) (stack_of board state.old)).stack }
 {
-    let handle = handle_of(index, issue);
-    let value = cookie_from(0 < has_cookie, cookie);
-    done_no(estack::set_cookie(state, Sizes::BOARD, handle, value))
+    let handle = ReceiveHandle { index, issue };
+    let cookie = cookie_from(0 < has_cookie, cookie);
+    done_no(estack::set_cookie(state, Sizes::BOARD, handle, cookie))
 }
 
 pub fn hyphaloom_cancel_flow(state: &mut [u8], source: u8, tag: u8) -> u8

@@ -9,27 +9,25 @@ ghost use Rattle.state.specs.Head.{with_own};
 ghost use Rattle.state.specs.Stack.{Kept, Becomes, stack_of, with_head};
 ghost use Rattle.estack.specs.Basics.{new_says, NewMakes, set_eid_of, local_of, cancel_of, free_tags_of};
 
-pub use handles::{Message, fetch_message, finished_receive, get_deferred, get_deferred_bycookie, return_handle, set_cookie};
+pub use handles::{
+    Message, fetch_message, finished_receive, get_deferred, get_deferred_bycookie, return_handle,
+    set_cookie,
+};
 use mctp::{Eid, Error, TagValue};
-pub use receiving::{receive};
+pub use receiving::receive;
 pub use sending::{Send, start_send};
 pub use slot::ReceiveHandle;
 use stamp::EventStamp;
 use state::{Head, Sizes};
-pub use updating::{update};
+pub use updating::update;
 
 // Makes a new stack in the front of a buffer; what lies past it stays.
+#[tactic(auto, unfolding(crate::specs::Basics::new_says, octets::specs::Pick::pick))]
 pub fn new(state: &mut [u8], sizes: Sizes, own: Eid, mtu: usize, clock: u64) -> Result<(), Error>
     ensures said { result ≡ new_says sizes (length state.old) mtu }
     ensures stack { NewMakes result sizes own mtu clock state.old state.new }
 {
-    if mtu < config::MIN_MTU {
-        return Err(Error::BadArgument);
-    }
-    if 255 < sizes.slots {
-        return Err(Error::BadArgument);
-    }
-    if 65535 < sizes.body {
+    if mtu < config::MIN_MTU || 255 < sizes.slots || 65535 < sizes.body {
         return Err(Error::BadArgument);
     }
     let size = state::SLOTS_AT + state::SLOT_WIDTH * sizes.slots;
@@ -37,14 +35,10 @@ pub fn new(state: &mut [u8], sizes: Sizes, own: Eid, mtu: usize, clock: u64) -> 
         return Err(Error::NoSpace);
     }
     state::clear(state, size);
-    let stamp = EventStamp {
-        clock: clock,
-        counter: 0,
-    };
     let h = Head {
         own_eid: own,
-        mtu: mtu,
-        now: stamp,
+        mtu,
+        now: EventStamp { clock, counter: 0 },
         next_timeout: 0,
         next_tag: 0,
         next_seq: 0,
@@ -59,13 +53,8 @@ pub fn set_eid(state: &mut [u8], sizes: Sizes, eid: u8) -> Result<(), Error>
     requires { Kept sizes state.old }
     ensures { (result ≡ (set_eid_of eid (stack_of sizes state.old)).said) × Becomes sizes state.old state.new (set_eid_of eid (stack_of sizes state.old)).stack }
 {
-    match Eid::new_normal(eid) {
-        Ok(own) => {
-            put_own(state, sizes, own);
-            Ok(())
-        }
-        Err(err) => Err(err),
-    }
+    put_own(state, sizes, Eid::new_normal(eid)?);
+    Ok(())
 }
 
 fn put_own(state: &mut [u8], sizes: Sizes, own: Eid)
@@ -93,6 +82,7 @@ pub fn is_local_dest(state: &[u8], sizes: Sizes, packet: &[u8]) -> bool
 }
 
 // Frees the replies of a peer and tag, and ends their flow.
+#[tactic(auto, using(state::proofs::StackLaws::stays), unfolding(crate::specs::Basics::cancel_of, octets::specs::Pick::pick))]
 pub fn cancel_flow(state: &mut [u8], sizes: Sizes, source: Eid, tag: TagValue) -> Result<(), Error>
     requires { Kept sizes state.old }
     ensures { (result ≡ (cancel_of source tag (stack_of sizes state.old)).said) × Becomes sizes state.old state.new (cancel_of source tag (stack_of sizes state.old)).stack }
@@ -113,6 +103,5 @@ pub fn free_tags(state: &[u8], sizes: Sizes, peer: Eid) -> u8
     requires { Kept sizes state.now }
     ensures { result ≡ free_tags_of peer (stack_of sizes state.now) }
 {
-    let used = flow_walks::used_tags(state, sizes, peer);
-    flows::tags::free_tags(used)
+    flows::tags::free_tags(flow_walks::used_tags(state, sizes, peer))
 }

@@ -1,8 +1,8 @@
 -- What a send's start and a step answer in numbers (docs/RULES.md 17); and a fragmenter as a row of numbers.
 -- Leans on `mctp` for an answer.
-use Rattle.std.specs.Prelude.{ℕ, List, [], ◌∷◌, Err, Ok, Result}
+use Rattle.std.specs.Prelude.{ℕ, List, [], ◌∷◌, Result}
 use Rattle.mctp.specs.Terms.{error_no, tag_of, is_owner, cookie_no, cookie_value}
-use Rattle.mctp.specs.Answer.{Answer, gives, refuses, flag_word}
+use Rattle.mctp.specs.Answer.{Answer, gives, refuses, answer_as, flag_word}
 use Rattle.fragment.specs.declared.Fragmenter.{Fragmenter}
 use Rattle.fragment.specs.declared.SendOutput.{SendOutput}
 use Rattle.fragment.specs.declared.SendOutput.TheVariants.{Packet, Complete, Error as Failed}
@@ -27,8 +27,7 @@ words_of f =
     ∷ []
 
 abbrev pub started_as : Result Fragmenter Error → Answer
-started_as (Ok f) = gives (words_of f)
-started_as (Err err) = refuses (error_no err) []
+started_as = answer_as words_of
 
 -- for a packet, 0 and its length; when all is sent, 0, length 0, the tag and the cookie; for a refusal, its number and the cookie. A packet has at least its
 -- header's four bytes, so length 0 says that all is sent

@@ -1,18 +1,19 @@
 -- docs/RULES.md 72, 73, 76 and 78 to 82: fetch, finish, return, set cookie, and the deferred lookups.
 -- A handle is an index and an issue number.
 -- Leans on `slot` for a slot's part and the count of handles, on `state` for the stack.
-use Rattle.std.specs.Prelude.{ℕ, ◌*◌, Bool, false, List, [], ◌∷◌, ltb, length, set, Err, None, Ok, Option, Result, Some}
+use Rattle.std.specs.Prelude.{ℕ, ◌*◌, ◌<◌, ◌≡◌, Bool, true, false, List, [], ◌∷◌, ltb, length, set, Err, None, Ok, Option, Result, Some}
 use Rattle.octets.specs.Pick.{pick}
 use Rattle.mctp.specs.declared.Eid.{Eid}
 use Rattle.mctp.specs.declared.Tag.{Tag}
 use Rattle.mctp.specs.declared.Error.TheVariants.{BadArgument, PoolShort}
-use Rattle.mctp.specs.Terms.{error_no, tag_of, is_owner, cookie_no, cookie_value}
-use Rattle.mctp.specs.Answer.{Answer, gives, refuses, flag_word}
+use Rattle.mctp.specs.Terms.{tag_of, is_owner, cookie_no, cookie_value}
+use Rattle.mctp.specs.Answer.{Answer, gives, answer_as, found_words, flag_word}
 use Rattle.slot.specs.declared.State.TheVariants.{Done as Waiting, HandleOut}
 use Rattle.slot.specs.declared.Reassembler.{Reassembler}
 use Rattle.slot.specs.Slot.{blank_slot, handle_is, kept_under, listed, with_state, with_slot_cookie}
 use Rattle.slot.specs.Search.{earliest}
 use Rattle.state.specs.Head.{with_issue}
+use Rattle.state.specs.Slot.{SlotOk}
 use Rattle.state.specs.Stack.{Stack, slot_at, with_slot}
 use Rattle.slot.specs.declared.ReceiveHandle.{ReceiveHandle}
 use Rattle.handles.specs.declared.Message.{Message}
@@ -24,8 +25,7 @@ use Rattle.mctp.specs.declared.Error.{Error}
 
 -- 0 and nothing else
 abbrev pub done_as : Result (Unit {0}) Error → Answer
-done_as (Ok tt) = gives []
-done_as (Err err) = refuses (error_no err) []
+done_as = answer_as (λ _. [])
 
 -- a message in numbers: source, destination, TO, tag, type, IC, has a cookie, cookie, the body's place in the pool and its length
 abbrev pub message_words : Message → List ℕ
@@ -43,19 +43,29 @@ message_words m =
     ∷ []
 
 abbrev pub fetched_as : Result Message Error → Answer
-fetched_as (Ok m) = gives (message_words m)
-fetched_as (Err err) = refuses (error_no err) []
+fetched_as = answer_as message_words
 
 -- 0 and a handle, or 0 alone where there is none
 abbrev pub deferred_as : Option ReceiveHandle → Answer
-deferred_as (Some h) = gives (handle_words h)
-deferred_as None = gives []
+deferred_as d = gives (found_words handle_words d)
 
 -- ---- handles
 
 -- whether a handle is good: its index is that of a slot, and that slot's handle is out under its number
 unfoldable pub is_good : ReceiveHandle → Stack → Bool
 is_good h st = pick (ltb h.index (length st.slots)) (handle_is h.issue (slot_at h.index st)) false
+
+-- s is the slot under a good handle
+pub record IsUnder (B : ℕ) (h : ReceiveHandle) (st : Stack) (s : Reassembler) : Type 0 where
+  pub good : is_good h st ≡ true
+  pub inside : h.index < length st.slots
+  pub same : s ≡ slot_at h.index st
+  pub ok : SlotOk B s
+
+-- a handle that is not good is refused
+pub record IsBad (h : ReceiveHandle) (st : Stack) (err : Error) : Type 0 where
+  pub bad : is_good h st ≡ false
+  pub same : err ≡ BadArgument
 
 pub record Handled : Type 0 where
   pub stack : Stack

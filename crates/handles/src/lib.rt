@@ -4,10 +4,9 @@
 
 #![tactic(auto)]
 
-ghost use Rattle.std.specs.Prelude.{◌≡◌, ◌<◌, length, IfSome, unwrap_or};
-ghost use Rattle.state.specs.Slot.{SlotOk};
+ghost use Rattle.std.specs.Prelude.{◌≡◌, ◌<◌, length, IfOk, IfErr, IfSome, unwrap_or};
 ghost use Rattle.state.specs.Stack.{Kept, Becomes, stack_of};
-ghost use Rattle.handles.specs.Handles.{is_good, handled, finish_of, return_of, set_cookie_of, fetch_of, take_of, by_source_of, by_cookie_of};
+ghost use Rattle.handles.specs.Handles.{IsUnder, IsBad, finish_of, return_of, set_cookie_of, fetch_of, take_of, by_source_of, by_cookie_of};
 
 use mctp::{AppCookie, Eid, Error, Key, MsgIC, MsgType, Tag};
 use slot::{Reassembler, ReceiveHandle};
@@ -24,20 +23,26 @@ pub struct Message {
     pub len: usize,
 }
 
-// Whether a handle is good: its slot has a handle out, under this number.
-fn is_good(state: &[u8], sizes: Sizes, handle: ReceiveHandle) -> bool
+// The slot under a good handle: its handle is out, under this number. Any other handle is BadArgument.
+#[tactic(auto, using(state::proofs::StackLaws::slots_length), unfolding(crate::specs::Handles::is_good, octets::specs::Pick::pick))]
+fn good_slot(state: &[u8], sizes: Sizes, handle: ReceiveHandle) -> Result<Reassembler, Error>
     requires { Kept sizes state.now }
-    ensures { result ≡ is_good handle (stack_of sizes state.now) }
+    ensures good { IfOk result (IsUnder sizes.body handle (stack_of sizes state.now)) }
+    ensures bad { IfErr result (IsBad handle (stack_of sizes state.now)) }
 {
-    let i = handle.index;
-    if i < sizes.slots {
-        let s = state::slot_at(state, sizes, i);
-        return s.handle_is(handle.issue);
+    if sizes.slots <= handle.index {
+        return Err(Error::BadArgument);
     }
-    false
+    let s = state::slot_at(state, sizes, handle.index);
+    if s.handle_is(handle.issue) {
+        Ok(s)
+    } else {
+        Err(Error::BadArgument)
+    }
 }
 
 // The message under a handle; nothing changes.
+#[tactic(auto, using(state::proofs::StackLaws::slots_length, state::proofs::SizeLaws::pool_fits), unfolding(crate::specs::Handles::fetch_of, octets::specs::Pick::pick))]
 pub fn fetch_message(
     state: &[u8],
     sizes: Sizes,
@@ -50,64 +55,41 @@ pub fn fetch_message(
     if pool.len() < sizes.body * sizes.slots {
         return Err(Error::PoolShort);
     }
-    let good = is_good(state, sizes, handle);
-    if good {
-        let i = handle.index;
-        let s = state::slot_at(state, sizes, i);
-        let key = s.key;
-        let typ = s.typ;
-        let ic = s.ic;
-        let cookie = s.cookie;
-        return Ok(Message {
-            key: key,
-            typ: typ,
-            ic: ic,
-            cookie: cookie,
-            at: sizes.body * i,
-            len: s.len,
-        });
-    }
-    Err(Error::BadArgument)
-}
-
-// The slot of a good handle becomes `s`; any other handle is BadArgument.
-fn put_under(
-    state: &mut [u8],
-    sizes: Sizes,
-    handle: ReceiveHandle,
-    s: Reassembler,
-) -> Result<(), Error>
-    requires { Kept sizes state.old × SlotOk sizes.body s }
-    ensures { (result ≡ (handled (λ _. s) handle (stack_of sizes state.old)).said) × Becomes sizes state.old state.new (handled (λ _. s) handle (stack_of sizes state.old)).stack }
-{
-    let good = is_good(state, sizes, handle);
-    if good {
-        let i = handle.index;
-        state::put_slot(state, sizes, i, s);
-        return Ok(());
-    }
-    Err(Error::BadArgument)
+    let s = good_slot(state, sizes, handle)?;
+    Ok(Message {
+        key: s.key,
+        typ: s.typ,
+        ic: s.ic,
+        cookie: s.cookie,
+        at: sizes.body * handle.index,
+        len: s.len,
+    })
 }
 
 // Finishes the message: its slot becomes empty.
+#[tactic(auto, using(state::proofs::StackLaws::stays), unfolding(crate::specs::Handles::handled, octets::specs::Pick::pick))]
 pub fn finished_receive(state: &mut [u8], sizes: Sizes, handle: ReceiveHandle) -> Result<(), Error>
     requires { Kept sizes state.old }
     ensures { (result ≡ (finish_of handle (stack_of sizes state.old)).said) × Becomes sizes state.old state.new (finish_of handle (stack_of sizes state.old)).stack }
 {
-    put_under(state, sizes, handle, slot::blank())
+    good_slot(state, sizes, handle)?;
+    state::put_slot(state, sizes, handle.index, slot::blank());
+    Ok(())
 }
 
 // Takes the handle back and keeps the message.
+#[tactic(auto, using(state::proofs::StackLaws::stays), unfolding(crate::specs::Handles::handled, octets::specs::Pick::pick))]
 pub fn return_handle(state: &mut [u8], sizes: Sizes, handle: ReceiveHandle) -> Result<(), Error>
     requires { Kept sizes state.old }
     ensures { (result ≡ (return_of handle (stack_of sizes state.old)).said) × Becomes sizes state.old state.new (return_of handle (stack_of sizes state.old)).stack }
 {
-    let i = handle.index;
-    let s = state::slot_at(state, sizes, i);
-    put_under(state, sizes, handle, s.return_handle())
+    let s = good_slot(state, sizes, handle)?;
+    state::put_slot(state, sizes, handle.index, s.return_handle());
+    Ok(())
 }
 
 // Gives the slot of the handle another cookie, or none.
+#[tactic(auto, using(state::proofs::StackLaws::stays), unfolding(crate::specs::Handles::handled, octets::specs::Pick::pick))]
 pub fn set_cookie(
     state: &mut [u8],
     sizes: Sizes,
@@ -117,12 +99,13 @@ pub fn set_cookie(
     requires { Kept sizes state.old }
     ensures { (result ≡ (set_cookie_of handle cookie (stack_of sizes state.old)).said) × Becomes sizes state.old state.new (set_cookie_of handle cookie (stack_of sizes state.old)).stack }
 {
-    let i = handle.index;
-    let s = state::slot_at(state, sizes, i);
-    put_under(state, sizes, handle, s.set_cookie(cookie))
+    let s = good_slot(state, sizes, handle)?;
+    state::put_slot(state, sizes, handle.index, s.set_cookie(cookie));
+    Ok(())
 }
 
 // Gives out the handle of the slot that is found, where one is.
+#[tactic(auto, using(state::proofs::StackLaws::slots_length, state::proofs::StackLaws::stays), unfolding(crate::specs::Handles::take_of, octets::specs::Pick::pick))]
 fn take(state: &mut [u8], sizes: Sizes, found: Option<usize>) -> Option<ReceiveHandle>
     requires kept { Kept sizes state.old }
     requires slot { IfSome found (λ i. i < sizes.slots) }
@@ -139,6 +122,7 @@ fn take(state: &mut [u8], sizes: Sizes, found: Option<usize>) -> Option<ReceiveH
 }
 
 // The earliest message kept from that source under that tag.
+#[tactic(auto, using(state::proofs::StackLaws::stays), unfolding(crate::specs::Handles::by_source_of, octets::specs::Pick::pick))]
 pub fn get_deferred(state: &mut [u8], sizes: Sizes, source: Eid, tag: Tag) -> Option<ReceiveHandle>
     requires { Kept sizes state.old }
     ensures { (result ≡ (by_source_of source tag (stack_of sizes state.old)).said) × Becomes sizes state.old state.new (by_source_of source tag (stack_of sizes state.old)).stack }

@@ -9,7 +9,7 @@ ghost use Rattle.octets.specs.Bytes.{over, part};
 ghost use Rattle.messages.specs.Message.{body_of, message_of, front_of};
 
 use handles::Message;
-use mctp::{Eid, MsgIC, MsgType, Tag, AppCookie};
+use mctp::{AppCookie, Eid, MsgIC, MsgType, Tag};
 
 #[derive(Clone, Copy)]
 pub struct MctpMessage<'a> {
@@ -26,15 +26,8 @@ pub struct MctpMessage<'a> {
 fn stretch(bytes: &[u8], at: usize, len: usize) -> &[u8]
     ensures { result.now ≡ part at len bytes.now }
 {
-    let size = bytes.len();
-    if size < at {
-        return &bytes[size..];
-    }
-    if size - at < len {
-        return &bytes[at..];
-    }
-    let end = at + len;
-    &bytes[at..end]
+    let rest = &bytes[at.min(bytes.len())..];
+    &rest[..len.min(rest.len())]
 }
 
 // The message of these facts, with its body lent from the pool.
@@ -42,16 +35,14 @@ pub fn lend_message<'a>(pool: &'a [u8], facts: Message) -> MctpMessage<'a>
     ensures fields { result ≡ message_of facts result.payload }
     ensures body { result.payload.now ≡ body_of facts pool.now }
 {
-    let tag = Tag::of(facts.key.owner, facts.key.tag);
-    let payload = stretch(pool, facts.at, facts.len);
     MctpMessage {
         source: facts.key.source,
         dest: facts.key.dest,
-        tag: tag,
+        tag: Tag::of(facts.key.owner, facts.key.tag),
         typ: facts.typ,
         ic: facts.ic,
         cookie: facts.cookie,
-        payload: payload,
+        payload: stretch(pool, facts.at, facts.len),
     }
 }
 
@@ -59,8 +50,7 @@ pub fn lend_message<'a>(pool: &'a [u8], facts: Message) -> MctpMessage<'a>
 pub fn lend_body<'a>(pool: &'a [u8], facts: Message) -> &'a [u8]
     ensures { result.now ≡ body_of facts pool.now }
 {
-    let m = lend_message(pool, facts);
-    m.payload
+    lend_message(pool, facts).payload
 }
 
 // Copies as much of the body as the buffer holds over its front, and tells how many bytes that is.

@@ -1,11 +1,10 @@
 -- docs/RULES.md 49, 50 and 78: what is said of a packet that its slot takes, and with a whole message the number of the handle that goes out and the
 -- end of a reply's flow.
 -- Leans on `flows` for the flow's removal, on `state` for the stack.
-use Rattle.std.specs.Prelude.{ℕ, Bool, true, false, List, [], Err, None, Ok, Option, Result, Some}
+use Rattle.std.specs.Prelude.{ℕ, Bool, true, false, List, None, Ok, Option, Result, Some}
 use Rattle.octets.specs.Pick.{pick}
 use Rattle.mctp.specs.declared.Key.{Key}
-use Rattle.mctp.specs.Terms.{error_no}
-use Rattle.mctp.specs.Answer.{Answer, gives, refuses}
+use Rattle.mctp.specs.Answer.{Answer, answer_as, found_words}
 use Rattle.flows.specs.declared.Flow.{Flow}
 use Rattle.flows.specs.Table.{removed}
 use Rattle.slot.specs.Handle.{next_issue, handle_words}
@@ -21,9 +20,7 @@ said_of false i issue = Ok None
 
 -- 0 while more is to come, 0 and a handle with a message, or the refusal's number
 abbrev pub received_as : Result (Option ReceiveHandle) Error → Answer
-received_as (Ok None) = gives []
-received_as (Ok (Some h)) = gives (handle_words h)
-received_as (Err err) = refuses (error_no err) []
+received_as = answer_as (found_words handle_words)
 
 -- rule 50: with EOM and TO=0 the flow is removed; where it has gone already nothing happens
 abbrev pub flows_after : Bool → Key → List Flow → List Flow

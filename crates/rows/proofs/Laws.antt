@@ -28,7 +28,6 @@ tag_back (Owned t) h = rw (mod-eq_of_lt h)
 tag_back (Unowned t) h = rw (mod-eq_of_lt h)
 
 cookie_back : (k : Option AppCookie) → cookie_from (is_yes (cookie_no k)) (cookie_value k) ≡ k
-unfolding cookie_from pick
 cookie_back None = refl
 cookie_back (Some v) = refl
 

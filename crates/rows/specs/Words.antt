@@ -1,7 +1,8 @@
 -- Rows of 64-bit numbers read as records, for callers that hold only numbers: a send, a fragmenter. What a row says of an answer stands beside the
 -- record: `handle_words`, `message_words`, `words_of`. Any number but 0 is read as yes.
 -- Leans on the records of `mctp`, `fragment` and `sending`.
-use Rattle.std.specs.Prelude.{ℕ, ◌%◌, Bool, true, false, List, ltb, eqb, get_or, set, None, Option, Some}
+use Rattle.std.specs.Prelude.{ℕ, ◌%◌, Bool, ◌&&◌, ◌||◌, List, ltb, leb, eqb, get_or, set, None, Option, Some}
+use Rattle.std.specs.Bool.{then_some}
 use Rattle.octets.specs.Pick.{pick}
 use Rattle.mctp.specs.declared.Tag.{Tag}
 use Rattle.mctp.specs.Terms.{tag_under}
@@ -26,23 +27,21 @@ narrow w = w % 256
 abbrev pub tag_from : Bool → ℕ → Tag
 tag_from owner t = tag_under owner (record { 0 = t })
 
-unfoldable pub cookie_from : Bool → ℕ → Option AppCookie
-cookie_from has value = pick has (Some (record { 0 = value })) None
+abbrev pub cookie_from : Bool → ℕ → Option AppCookie
+cookie_from has value = then_some has (record { 0 = value })
 
 -- A send: destination, type, kind of tag, tag, expires, IC, has an MTU, MTU, has a cookie, cookie. The kind is 0 for a fresh tag, 1 for a given owned tag
 -- and 2 for a given unowned one.
 
 -- whether the row is a good send: destination and type are bytes, the kind of tag is one of the three, and a given tag is a byte
 unfoldable pub good_send : List ℕ → Bool
-good_send w =
-    pick (ltb 255 (word 0 w)) false
-    (pick (ltb 255 (word 1 w)) false (pick (ltb 2 (word 2 w)) false (pick (eqb (word 2 w) 0) true (ltb (word 3 w) 256))))
+good_send w = leb (word 0 w) 255 && leb (word 1 w) 255 && leb (word 2 w) 2 && (eqb (word 2 w) 0 || leb (word 3 w) 255)
 
 unfoldable pub send_tag_from : ℕ → ℕ → Option Tag
 send_tag_from kind t = pick (eqb kind 0) None (pick (eqb kind 1) (Some (Owned (record { 0 = t }))) (Some (Unowned (record { 0 = t }))))
 
-unfoldable pub send_mtu_from : Bool → ℕ → Option ℕ
-send_mtu_from has mtu = pick has (Some mtu) None
+abbrev pub send_mtu_from : Bool → ℕ → Option ℕ
+send_mtu_from has mtu = then_some has mtu
 
 abbrev pub send_of : List ℕ → Send
 send_of w = record {

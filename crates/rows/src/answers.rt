@@ -1,43 +1,110 @@
-// What a call answers in numbers, and what it leaves in the row that it is lent: a refusal leaves the row as it was.
-// One function for each kind of answer. Definitions: specs/Answers.antt.
-// Leans on lib.rt for rows, on `fragment`, `updating`, `receiving` and `handles` for their answers.
-ghost use Rattle.std.specs.Prelude.{◌≡◌};
-ghost use Rattle.mctp.specs.Answer.{answer_no, row_after};
-ghost use Rattle.fragment.specs.Answers.{started_as, output_as};
-ghost use Rattle.receiving.specs.Conclude.{received_as};
-ghost use Rattle.updating.specs.Update.{updated_as};
-ghost use Rattle.handles.specs.Handles.{done_as, fetched_as, deferred_as};
+// What a call answers in numbers, and what it leaves in the row that it is lent.
+// Definitions: specs/Answers.antt.
+// Leans on lib.rt for a fragmenter's row, on `fragment`, `updating`, `slot` and `handles` for what is told.
+ghost use Rattle.std.specs.Prelude.{◌≡◌, ℕ, List};
+ghost use Rattle.mctp.specs.Answer.{answer_as, answer_no, row_of, row_after, found_words};
+ghost use Rattle.fragment.specs.Answers.{output_as, words_of};
+ghost use Rattle.slot.specs.Handle.{handle_words};
+ghost use Rattle.updating.specs.Update.{next_words};
+ghost use Rattle.handles.specs.Handles.{done_as, message_words};
 ghost use Rattle.rows.specs.Answers.{length_after, stepped_after};
 
-use handles::Message;
-use updating::Next;
-use slot::ReceiveHandle;
-use mctp::Error;
-use crate::{advance, flag_word, handle_words, message_words, words_of};
+use crate::advance;
 use fragment::{Fragmenter, SendOutput};
+use handles::Message;
+use mctp::Error;
+use slot::ReceiveHandle;
+use updating::Next;
 
+// What a call tells in a row of N numbers.
+pub trait Row<const N: usize> {
+    ghost words: { Self → List ℕ };
 
+    fn words(self) -> [u64; N]
+        ensures { result ≡ row_of N (words self) };
+}
 
+impl Row<13> for Fragmenter {
+    ghost words = { words_of };
 
+    fn words(self) -> [u64; 13] {
+        [
+            u64::from(self.src.0),
+            u64::from(self.dest.0),
+            u64::from(self.typ.0),
+            u64::from(self.tag.is_owner()),
+            u64::from(self.tag.tag().0),
+            u64::from(self.ic.0),
+            u64::from(self.seq),
+            self.mtu as u64,
+            u64::from(self.first),
+            u64::from(self.done),
+            u64::from(mctp::cookie_no(self.cookie)),
+            mctp::cookie_value(self.cookie),
+            self.payload_used as u64,
+        ]
+    }
+}
+
+impl Row<2> for Next {
+    ghost words = { next_words };
+
+    fn words(self) -> [u64; 2] {
+        [self.millis, u64::from(self.expired)]
+    }
+}
+
+// No handle has issue 0.
+impl Row<2> for Option<ReceiveHandle> {
+    ghost words = { found_words handle_words };
+
+    fn words(self) -> [u64; 2] {
+        match self {
+            Some(h) => [h.index as u64, h.issue],
+            None => [0, 0],
+        }
+    }
+}
+
+impl Row<10> for Message {
+    ghost words = { message_words };
+
+    fn words(self) -> [u64; 10] {
+        [
+            u64::from(self.key.source.0),
+            u64::from(self.key.dest.0),
+            u64::from(self.key.owner),
+            u64::from(self.key.tag.0),
+            u64::from(self.typ.0),
+            u64::from(self.ic.0),
+            u64::from(mctp::cookie_no(self.cookie)),
+            mctp::cookie_value(self.cookie),
+            self.at as u64,
+            self.len as u64,
+        ]
+    }
+}
+
+// The number of an answer; what is told is left in the row, and a refusal leaves the row as it was.
+pub fn put<const N: usize, T: Row<N>>(row: &mut [u64; N], said: Result<T, Error>) -> u8
+    ensures value { result ≡ answer_no (answer_as T.words said) }
+    ensures row { row.new ≡ row_after N (answer_as T.words said) row.old }
+{
+    match said {
+        Ok(it) => {
+            *row = it.words();
+            0
+        }
+        Err(err) => err.number(), // the row stays
+    }
+}
+
+// The number of an answer that tells nothing else.
 pub fn done_no(d: Result<(), Error>) -> u8
     ensures { result ≡ answer_no (done_as d) }
 {
     match d {
         Ok(()) => 0,
-        Err(err) => err.number(),
-    }
-}
-
-// A send that has started leaves its fragmenter.
-pub fn put_started(fragmenter: &mut [u64; 13], started: Result<Fragmenter, Error>) -> u8
-    ensures value { result ≡ answer_no (started_as started) }
-    ensures fragmenter_after { fragmenter.new ≡ row_after 13 (started_as started) fragmenter.old }
-{
-    match started {
-        Ok(f) => {
-            *fragmenter = words_of(f);
-            0
-        }
         Err(err) => err.number(),
     }
 }
@@ -64,65 +131,5 @@ pub fn put_step(
             0
         }
         SendOutput::Error { err, cookie: _ } => err.number(),
-    }
-}
-
-// An update leaves how many milliseconds may pass until the next, and whether something expired.
-pub fn put_next(next: &mut [u64; 2], updated: Result<Next, Error>) -> u8
-    ensures value { result ≡ answer_no (updated_as updated) }
-    ensures next_after { next.new ≡ row_after 2 (updated_as updated) next.old }
-{
-    match updated {
-        Ok(Next { millis, expired }) => {
-            *next = [millis, flag_word(expired)];
-            0
-        }
-        Err(err) => err.number(),
-    }
-}
-
-// A packet that ends a message leaves the message's handle; any other leaves issue 0.
-pub fn put_received(handle: &mut [u64; 2], received: Result<Option<ReceiveHandle>, Error>) -> u8
-    ensures value { result ≡ answer_no (received_as received) }
-    ensures handle_after { handle.new ≡ row_after 2 (received_as received) handle.old }
-{
-    match received {
-        Ok(None) => {
-            *handle = [0, 0];
-            0
-        }
-        Ok(Some(h)) => {
-            *handle = handle_words(h);
-            0
-        }
-        Err(err) => err.number(),
-    }
-}
-
-// A lookup leaves the handle that it found, or issue 0.
-pub fn put_deferred(row: &mut [u64; 2], d: Option<ReceiveHandle>)
-    ensures { row.new ≡ row_after 2 (deferred_as d) row.old }
-{
-    match d {
-        Some(h) => {
-            *row = handle_words(h);
-        }
-        None => {
-            *row = [0, 0];
-        }
-    }
-}
-
-// A message that is fetched leaves its row.
-pub fn put_message(message: &mut [u64; 10], fetched: Result<Message, Error>) -> u8
-    ensures value { result ≡ answer_no (fetched_as fetched) }
-    ensures message_after { message.new ≡ row_after 10 (fetched_as fetched) message.old }
-{
-    match fetched {
-        Ok(m) => {
-            *message = message_words(m);
-            0
-        }
-        Err(err) => err.number(),
     }
 }

@@ -7,29 +7,12 @@
 mod answers;
 
 ghost use Rattle.std.specs.Prelude.{◌≡◌};
-ghost use Rattle.mctp.specs.Answer.{flag_word};
-ghost use Rattle.fragment.specs.Answers.{words_of};
-ghost use Rattle.slot.specs.Handle.{handle_words};
-ghost use Rattle.handles.specs.Handles.{message_words};
 ghost use Rattle.rows.specs.Words.{is_yes, narrow, tag_from, cookie_from, advanced_row, fragmenter_of, good_send, send_of, send_tag_from, send_mtu_from};
 
-pub use answers::{
-    done_no, put_deferred, put_message, put_next, put_received, put_started, put_step,
-};
+pub use answers::{Row, done_no, put, put_step};
 use fragment::Fragmenter;
-use handles::Message;
 use mctp::{AppCookie, Eid, MsgIC, MsgType, Tag, TagValue};
-use sending::{Send};
-use slot::ReceiveHandle;
-
-pub fn flag_word(b: bool) -> u64
-    ensures { result ≡ flag_word b }
-{
-    if b {
-        return 1;
-    }
-    0
-}
+use sending::Send;
 
 pub fn is_yes(w: u64) -> bool
     ensures { result ≡ is_yes w }
@@ -44,12 +27,6 @@ pub fn narrow(w: u64) -> u8
     (w % 256) as u8
 }
 
-fn wide(b: u8) -> u64
-    ensures { result ≡ b }
-{
-    b as u64
-}
-
 pub fn tag_from(owner: bool, tag: u8) -> Tag
     ensures { result ≡ tag_from owner tag }
 {
@@ -59,158 +36,76 @@ pub fn tag_from(owner: bool, tag: u8) -> Tag
 pub fn cookie_from(has: bool, value: u64) -> Option<AppCookie>
     ensures { result ≡ cookie_from has value }
 {
-    if has {
-        return Some(AppCookie(value));
-    }
-    None
+    has.then_some(AppCookie(value))
 }
 
 // ---- a send
 
 // Whether the row is a good send: destination, type and a given tag are bytes, and the kind of tag is one of the three. For a fresh tag word 3 is not looked at.
+#[tactic(auto, unfolding(crate::specs::Words::good_send))]
 pub fn is_good_send(w: &[u64; 10]) -> bool
     ensures { result ≡ good_send w.now }
 {
-    if 255 < w[0] {
-        return false;
-    }
-    if 255 < w[1] {
-        return false;
-    }
-    if 2 < w[2] {
-        return false;
-    }
-    if w[2] == 0 {
-        return true;
-    }
-    w[3] < 256
+    w[0] <= 255 && w[1] <= 255 && w[2] <= 2 && (w[2] == 0 || w[3] <= 255)
 }
 
+#[tactic(auto, unfolding(crate::specs::Words::send_tag_from, octets::specs::Pick::pick))]
 fn send_tag_from(kind: u64, tag: u8) -> Option<Tag>
     ensures { result ≡ send_tag_from kind tag }
 {
-    if kind == 0 {
-        return None;
+    match kind {
+        0 => None,
+        1 => Some(Tag::Owned(TagValue(tag))),
+        _ => Some(Tag::Unowned(TagValue(tag))),
     }
-    if kind == 1 {
-        return Some(Tag::Owned(TagValue(tag)));
-    }
-    Some(Tag::Unowned(TagValue(tag)))
 }
 
 fn send_mtu_from(has: bool, mtu: u64) -> Option<usize>
     ensures { result ≡ send_mtu_from has mtu }
 {
-    if has {
-        return Some(mtu as usize);
-    }
-    None
+    has.then_some(mtu as usize)
 }
 
 pub fn send_of(w: &[u64; 10]) -> Send
     ensures { result ≡ send_of w.now }
 {
-    let dest = Eid(narrow(w[0]));
-    let typ = MsgType(narrow(w[1]));
-    let tag = send_tag_from(w[2], narrow(w[3]));
-    let expires = is_yes(w[4]);
-    let ic = MsgIC(is_yes(w[5]));
-    let mtu = send_mtu_from(is_yes(w[6]), w[7]);
-    let cookie = cookie_from(is_yes(w[8]), w[9]);
     Send {
-        dest: dest,
-        typ: typ,
-        tag: tag,
-        expires: expires,
-        ic: ic,
-        mtu: mtu,
-        cookie: cookie,
+        dest: Eid(narrow(w[0])),
+        typ: MsgType(narrow(w[1])),
+        tag: send_tag_from(w[2], narrow(w[3])),
+        expires: is_yes(w[4]),
+        ic: MsgIC(is_yes(w[5])),
+        mtu: send_mtu_from(is_yes(w[6]), w[7]),
+        cookie: cookie_from(is_yes(w[8]), w[9]),
     }
 }
 
 // ---- a fragmenter
 
-pub fn words_of(f: Fragmenter) -> [u64; 13]
-    ensures { result ≡ words_of f }
-{
-    let tag = f.tag;
-    let cookie = f.cookie;
-    [
-        wide(f.src.0),
-        wide(f.dest.0),
-        wide(f.typ.0),
-        flag_word(tag.is_owner()),
-        wide(tag.tag().0),
-        flag_word(f.ic.0),
-        wide(f.seq),
-        f.mtu as u64,
-        flag_word(f.first),
-        flag_word(f.done),
-        wide(mctp::cookie_no(cookie)),
-        mctp::cookie_value(cookie),
-        f.payload_used as u64,
-    ]
-}
-
 // Stores what a packet moves: sequence, first, done and the bytes sent.
 pub fn advance(w: &mut [u64; 13], next: Fragmenter)
     ensures { w.new ≡ advanced_row next w.old }
 {
-    w[6] = wide(next.seq);
-    w[8] = flag_word(next.first);
-    w[9] = flag_word(next.done);
+    w[6] = u64::from(next.seq);
+    w[8] = u64::from(next.first);
+    w[9] = u64::from(next.done);
     w[12] = next.payload_used as u64;
 }
 
 pub fn fragmenter_of(w: &[u64; 13]) -> Fragmenter
     ensures { result ≡ fragmenter_of w.now }
 {
-    let src = Eid(narrow(w[0]));
-    let dest = Eid(narrow(w[1]));
-    let typ = MsgType(narrow(w[2]));
-    let tag = tag_from(is_yes(w[3]), narrow(w[4]));
-    let ic = MsgIC(is_yes(w[5]));
-    let seq = narrow(w[6]);
-    let first = is_yes(w[8]);
-    let done = is_yes(w[9]);
-    let cookie = cookie_from(is_yes(w[10]), w[11]);
     Fragmenter {
-        src: src,
-        dest: dest,
-        typ: typ,
-        tag: tag,
-        ic: ic,
-        seq: seq,
+        src: Eid(narrow(w[0])),
+        dest: Eid(narrow(w[1])),
+        typ: MsgType(narrow(w[2])),
+        tag: tag_from(is_yes(w[3]), narrow(w[4])),
+        ic: MsgIC(is_yes(w[5])),
+        seq: narrow(w[6]),
         mtu: w[7] as usize,
-        first: first,
-        done: done,
-        cookie: cookie,
+        first: is_yes(w[8]),
+        done: is_yes(w[9]),
+        cookie: cookie_from(is_yes(w[10]), w[11]),
         payload_used: w[12] as usize,
     }
-}
-
-// ---- a handle, a message
-
-pub fn handle_words(h: ReceiveHandle) -> [u64; 2]
-    ensures { result ≡ handle_words h }
-{
-    [h.index as u64, h.issue]
-}
-
-pub fn message_words(m: Message) -> [u64; 10]
-    ensures { result ≡ message_words m }
-{
-    let cookie = m.cookie;
-    [
-        wide(m.key.source.0),
-        wide(m.key.dest.0),
-        flag_word(m.key.owner),
-        wide(m.key.tag.0),
-        wide(m.typ.0),
-        flag_word(m.ic.0),
-        wide(mctp::cookie_no(cookie)),
-        mctp::cookie_value(cookie),
-        m.at as u64,
-        m.len as u64,
-    ]
 }

@@ -1,3 +1,2 @@
--- The laws of an update, part by part, and what its first number is.
+-- What an update's first number is, and that a clock that is not earlier is taken.
 pub mod Times
-pub mod UpdateLaws

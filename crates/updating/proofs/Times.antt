@@ -9,6 +9,8 @@ use borrow.Author.Tests.{ltb-true, ltb-false}
 use Rattle.std.specs.Prelude.{Err, Ok, Result}
 use Rattle.config.specs.Config.{interval}
 use Rattle.octets.specs.Pick.{pick_cases}
+use Rattle.stamp.specs.declared.EventStamp.{EventStamp}
+use Rattle.stamp.specs.Stamp.{clocked}
 use Rattle.stamp.specs.declared.Timeout.TheVariants.{Left}
 use Rattle.stamp.specs.Checks.{least_left}
 use Rattle.stamp.proofs.Least.{LeastOf, least_left_lem}
@@ -20,6 +22,12 @@ use Rattle.state.specs.Times.{slot_times}
 use Rattle.updating.specs.Update.{Update, least_of, checked, update_of}
 use Rattle.mctp.specs.declared.Error.{Error}
 use Rattle.updating.specs.declared.Next.{Next}
+
+-- a clock that is not earlier is taken
+pub clock_taken : (t : ℕ) (s : EventStamp) → s.clock ≤ t → (clocked t s).clock ≡ t
+unfolding clocked
+clock_taken t s h =
+    pick_cases (λ (u : EventStamp). u.clock ≡ t) (λ _. refl) (λ e. let l = ltb-false s.clock t e in omega arith)
 
 -- n is the least of 100 and every remaining time at that clock: at most each of them, and one of them
 pub record Remaining (n now : ℕ) (st : Stack) : Type 0 where
@@ -48,6 +56,10 @@ module _ (now : ℕ) (st : Stack) where
       go n r (inr q) s = inr (inr q)
       go n r (inl e) (inl q) = inl (e ∙ q)
       go n r (inl e) (inr q) = inr (inl (q.0, q.1 ∙ ap Left (sym e)))
+
+-- the check that is planned is at most 100 ms away
+pub least_soon : (now : ℕ) (st : Stack) → least_of now st ≤ 100
+least_soon now st = (remaining now st).most
 
 -- what the first number of an update is: the gap to the planned check, or the least of 100 and every remaining time
 abbrev pub ToldTime : ℕ → Stack → ℕ → Type 0

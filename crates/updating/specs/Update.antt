@@ -1,12 +1,11 @@
 -- docs/RULES.md 69 to 71, `update`. A clock below the last is InvalidInput; otherwise the clock is taken. Below the planned check the answer is the gap to it
 -- and no. Otherwise slots and flows expire, and the next check is planned after the least of 100 and every remaining time. The planned check stops at 2^64 - 1.
 -- Leans on `state` for the remaining times, on `stamp` for what a check finds, on `flows` and `slot` for what expires.
-use Rattle.std.specs.Prelude.{ℕ, ◌+◌, ◌-◌, min, Bool, false, [], ◌∷◌, map, ltb, Err, Ok, Result}
+use Rattle.std.specs.Prelude.{ℕ, ◌+◌, ◌-◌, min, Bool, false, List, [], ◌∷◌, map, ltb, Err, Ok, Result}
 use Rattle.config.specs.Config.{interval}
 use Rattle.octets.specs.Pick.{pick}
 use Rattle.mctp.specs.declared.Error.TheVariants.{InvalidInput}
-use Rattle.mctp.specs.Terms.{error_no}
-use Rattle.mctp.specs.Answer.{Answer, gives, refuses, flag_word}
+use Rattle.mctp.specs.Answer.{Answer, answer_as, flag_word}
 use Rattle.stamp.specs.Stamp.{clocked}
 use Rattle.flows.specs.Table.{faded_flow}
 use Rattle.slot.specs.Slot.{faded_slot}
@@ -21,10 +20,12 @@ pub record Update : Type 0 where
   pub stack : Stack
   pub said : Result Next Error
 
--- 0, the milliseconds until the next check, and whether something expired
+-- what an update tells, in numbers: the milliseconds until the next check, and whether something expired
+abbrev pub next_words : Next → List ℕ
+next_words next = next.millis ∷ flag_word next.expired ∷ []
+
 abbrev pub updated_as : Result Next Error → Answer
-updated_as (Ok next) = gives (next.millis ∷ flag_word next.expired ∷ [])
-updated_as (Err err) = refuses (error_no err) []
+updated_as = answer_as next_words
 
 -- the least of the interval and every remaining time; what has expired has none, and neither has what no time runs for, such as a slot whose handle is out
 abbrev pub least_of : ℕ → Stack → ℕ

@@ -25,12 +25,10 @@ pub struct Next {
 fn plan_check(clock: u64, least: u32) -> u64
     ensures { result ≡ planned_at clock least }
 {
-    if 18446744073709551615 - clock < (least as u64) {
-        return 18446744073709551615;
-    }
-    clock + (least as u64)
+    clock.saturating_add(u64::from(least))
 }
 
+#[tactic(auto, using(state::proofs::StackLaws::head_ok))]
 fn put_clock(state: &mut [u8], sizes: Sizes, h: Head, stamp: EventStamp, next_timeout: u64)
     requires { Kept sizes state.old × (h ≡ (stack_of sizes state.old).head) × (next_timeout ≤ stamp.clock + interval) }
     ensures { Becomes sizes state.old state.new (with_head (with_planned next_timeout (with_now stamp h)) (stack_of sizes state.old)) }
@@ -39,6 +37,7 @@ fn put_clock(state: &mut [u8], sizes: Sizes, h: Head, stamp: EventStamp, next_ti
 }
 
 // The check itself: slots and flows expire, and the next check is planned.
+#[tactic(auto, using(crate::proofs::Times::least_soon), unfolding(crate::specs::Update::checked))]
 fn check(state: &mut [u8], sizes: Sizes, clock: u64) -> Result<Next, Error>
     requires { Kept sizes state.old × (clock ≡ (stack_of sizes state.old).head.now.clock) }
     ensures { (result ≡ (checked clock (stack_of sizes state.old)).said) × Becomes sizes state.old state.new (checked clock (stack_of sizes state.old)).stack }
@@ -47,17 +46,18 @@ fn check(state: &mut [u8], sizes: Sizes, clock: u64) -> Result<Next, Error>
         least: config::TIMEOUT_INTERVAL,
         expired: false,
     };
-    let slots = slot_walks::expire_slots(state, sizes, clock, start);
-    let c = flow_walks::expire_flows(state, sizes, clock, slots);
+    let c = slot_walks::expire_slots(state, sizes, clock, start);
+    let c = flow_walks::expire_flows(state, sizes, clock, c);
     let h = state::head_at(state, sizes);
     put_clock(state, sizes, h, h.now, plan_check(clock, c.least));
     Ok(Next {
-        millis: c.least as u64,
+        millis: u64::from(c.least),
         expired: c.expired,
     })
 }
 
 // Takes the clock. Where the planned check is reached, slots and flows expire.
+#[tactic(auto, using(state::proofs::StackLaws::stays, crate::proofs::Times::clock_taken), unfolding(crate::specs::Update::update_of, octets::specs::Pick::pick))]
 pub fn update(state: &mut [u8], sizes: Sizes, clock: u64) -> Result<Next, Error>
     requires { Kept sizes state.old }
     ensures { (result ≡ (update_of clock (stack_of sizes state.old)).said) × Becomes sizes state.old state.new (update_of clock (stack_of sizes state.old)).stack }
@@ -66,13 +66,11 @@ pub fn update(state: &mut [u8], sizes: Sizes, clock: u64) -> Result<Next, Error>
     if clock < h.now.clock {
         return Err(Error::InvalidInput);
     }
-    let last = h.now;
-    let stamp = last.update_clock(clock);
-    let planned = h.next_timeout;
-    put_clock(state, sizes, h, stamp, planned);
-    if clock < planned {
+    let stamp = h.now.update_clock(clock);
+    put_clock(state, sizes, h, stamp, h.next_timeout);
+    if clock < h.next_timeout {
         return Ok(Next {
-            millis: planned - clock,
+            millis: h.next_timeout - clock,
             expired: false,
         });
     }

@@ -1,10 +1,7 @@
 -- The row and the length come first, by the plan, and then the packet: a plan that is carried out is the step.
 use mathlib.Core.Path.{ap, ◌∙◌}
 use lib.ListN.{length}
-use Rattle.octets.specs.Bytes.{over}
-use Rattle.fragment.specs.declared.Fragmenter.{Fragmenter}
 use Rattle.fragment.specs.declared.Fragmented.{Fragmented}
-use Rattle.fragment.specs.Step.{step_of}
 use Rattle.fragment.proofs.Plans.{step-told}
 use Rattle.rows.specs.Words.{fragmenter_of}
 use Rattle.mctp.specs.Answer.{answer_no}
@@ -14,9 +11,9 @@ use Rattle.board.proofs.calls.hyphaloom_fragment.Goals as goal
 
 pub returns : goal.returns
 returns c =
-    let e = step-told (fragmenter_of c.args.fragmenter.now) c.args.payload.now (length c.args.out.now) (rw c.fragmenter_of-f.ensures at c.plan-plan.ensures.plan) (rw c.fragmenter_of-f.ensures at c.next-next.ensures) c.output-output.ensures in record {
+    let e = step-told (fragmenter_of c.args.fragmenter.now) c.args.payload.now (length c.args.out.now) (rw c.fragmenter_of-f.ensures at c.plan-plan.ensures.plan) (rw c.fragmenter_of-f.ensures at c.next.ensures) c.output.ensures in record {
       said = c.put_step-said.ensures.value ∙ ap (λ (x : Fragmented). answer_no (output_as x.output)) e;
       length = c.put_step-said.ensures.len_after ∙ ap (λ (x : Fragmented). length_after (output_as x.output) c.args.len.now) e;
       fragmenter = c.put_step-said.ensures.fragmenter_after ∙ ap (λ (x : Fragmented). stepped_after x.next x.output c.args.fragmenter.now) e;
-      packet = c.write.ensures ∙ ap (λ (g : Fragmenter). over 0 (step_of g c.args.payload.now (length c.args.out.now)).bytes c.args.out.now) c.fragmenter_of-f.ensures;
+      packet = rw c.fragmenter_of-f.ensures at c.write.ensures;
     }

@@ -1,7 +1,0 @@
-use Rattle.rows.proofs.answers.done_no.Goals as goal
-
-pub returns-in-Ok : goal.returns-in-Ok
-returns-in-Ok c = rw c.in-Ok.is
-
-pub returns-in-Err : goal.returns-in-Err
-returns-in-Err c = rw c.in-Err.is c.number.ensures

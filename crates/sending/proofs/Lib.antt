@@ -1,2 +1,0 @@
--- The laws of a send, part by part.
-pub mod SendLaws
