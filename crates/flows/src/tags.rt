@@ -3,7 +3,6 @@
 ghost use Rattle.std.specs.Prelude.{◌≡◌, ◌%◌, ◌^◌, ◌≤◌};
 ghost use Rattle.flows.specs.Tags.{free_tag_of, free_count, is_free_in, set_bit};
 
-
 use mctp::TagValue;
 
 // Whether bit t is clear.
@@ -21,6 +20,7 @@ fn power(t: u8) -> u8
 }
 
 // The byte with bit t set.
+#[tactic(auto, using(crate::proofs::Bits::room), unfolding(octets::specs::Pick::pick, crate::specs::Tags::set_bit))]
 pub fn set_bit(t: u8, byte: u8) -> u8
     ensures { result ≡ set_bit (t % 8) byte }
 {
@@ -32,16 +32,15 @@ pub fn set_bit(t: u8, byte: u8) -> u8
 }
 
 // The first free tag from `start` on, 0 after 7; bit t of `used` says that tag t is taken.
+#[tactic(auto, using(crate::proofs::TagLaws::free_found, crate::proofs::TagLaws::free_none))]
 pub fn free_tag(used: u8, start: u8) -> Option<TagValue>
     ensures { result ≡ free_tag_of used (start % 8) }
 {
-    let mut i: u8 = 0;
-    while i < 8 {
+    for i in 0..8 {
         let t = start % 8 + i;
         if tag_is_free(used, t) {
             return Some(TagValue(t % 8));
         }
-        i += 1;
     }
     None
 }
@@ -50,5 +49,5 @@ pub fn free_tag(used: u8, start: u8) -> Option<TagValue>
 pub fn free_tags(used: u8) -> u8
     ensures { result ≡ free_count used }
 {
-    8 - u8::count_ones(used) as u8
+    8 - used.count_ones() as u8
 }

@@ -12,7 +12,7 @@ ghost use Rattle.fragment.specs.Step.{new_of, advanced_by, header_for, Writable,
 use mctp::{AppCookie, Eid, Error, Header, Key, MsgIC, MsgType, Tag};
 use octets::Uint;
 
-#[derive(Clone, Copy)]
+#[derive(Clone, Copy, Debug, PartialEq, Eq)]
 pub struct Fragmenter {
     pub src: Eid,
     pub dest: Eid,
@@ -29,21 +29,27 @@ pub struct Fragmenter {
 }
 
 // What a step answers: a packet of so many bytes is in the buffer, all is sent, or a refusal.
-#[derive(Clone, Copy)]
+#[derive(Clone, Copy, Debug, PartialEq, Eq)]
 pub enum SendOutput {
     Packet(usize),
-    Complete { tag: Tag, cookie: Option<AppCookie> },
-    Error { err: Error, cookie: Option<AppCookie> },
+    Complete {
+        tag: Tag,
+        cookie: Option<AppCookie>,
+    },
+    Error {
+        err: Error,
+        cookie: Option<AppCookie>,
+    },
 }
 
-#[derive(Clone, Copy)]
+#[derive(Clone, Copy, Debug, PartialEq, Eq)]
 pub struct Fragmented {
     pub next: Fragmenter,
     pub output: SendOutput,
 }
 
 // A packet cut off the payload, before it is written.
-#[derive(Clone, Copy)]
+#[derive(Clone, Copy, Debug, PartialEq, Eq)]
 pub struct Cut {
     // the fragmenter after it
     pub next: Fragmenter,
@@ -58,7 +64,7 @@ pub struct Cut {
 }
 
 // What a step is going to do: write nothing and give this answer, or write this packet.
-#[derive(Clone, Copy)]
+#[derive(Clone, Copy, Debug, PartialEq, Eq)]
 pub enum Plan {
     Still(SendOutput),
     Emits(Cut),
@@ -86,6 +92,7 @@ fn write_later(out: &mut [u8], h: Header, payload: &[u8], used: usize, n: usize)
 }
 
 // Writes a plan's packet over the front of the buffer.
+#[tactic(auto, unfolding(octets::specs::Bytes::over, crate::specs::Step::written_by))]
 fn write_plan(plan: Plan, payload: &[u8], out: &mut [u8])
     requires { Writable plan (length payload.now) (length out.old) }
     ensures { out.new ≡ over 0 (written_by plan payload.now) out.old }
@@ -93,18 +100,16 @@ fn write_plan(plan: Plan, payload: &[u8], out: &mut [u8])
     let Plan::Emits(c) = plan else {
         return;
     };
-    let h = c.header;
-    let from = c.from;
-    let n = c.len;
-    if h.som {
-        write_first(out, h, c.kind, payload, from, n);
-        return;
+    if c.header.som {
+        write_first(out, c.header, c.kind, payload, c.from, c.len);
+    } else {
+        write_later(out, c.header, payload, c.from, c.len);
     }
-    write_later(out, h, payload, from, n);
 }
 
 impl Plan {
     // The fragmenter after the step: where nothing is written it stays as it was.
+    #[tactic(auto, unfolding(crate::specs::Step::next_by))]
     pub fn next(self, f: Fragmenter) -> Fragmenter
         ensures { result ≡ next_by f self }
     {
@@ -115,6 +120,7 @@ impl Plan {
     }
 
     // What the step answers.
+    #[tactic(auto, unfolding(crate::specs::Step::output_by))]
     pub fn output(self) -> SendOutput
         ensures { result ≡ output_by self }
     {
@@ -126,6 +132,7 @@ impl Plan {
 }
 
 impl Fragmenter {
+    #[tactic(auto, unfolding(octets::specs::Pick::pick, crate::specs::Step::new_of))]
     pub fn new(
         typ: MsgType,
         src: Eid,
@@ -138,30 +145,23 @@ impl Fragmenter {
     ) -> Result<Fragmenter, Error>
         ensures { result ≡ new_of typ src dest tag mtu cookie ic seq }
     {
-        let t = tag.tag();
-        if 7 < t.0 {
+        if tag.tag().0 > 7 || typ.0 > 127 {
             return Err(Error::InvalidInput);
         }
-        if 127 < typ.0 {
-            return Err(Error::InvalidInput);
-        }
-        if mtu < config::MIN_MTU {
-            return Err(Error::BadArgument);
-        }
-        if config::MAX_MTU < mtu {
+        if !(config::MIN_MTU..=config::MAX_MTU).contains(&mtu) {
             return Err(Error::BadArgument);
         }
         Ok(Fragmenter {
-            src: src,
-            dest: dest,
-            typ: typ,
-            tag: tag,
-            ic: ic,
+            src,
+            dest,
+            typ,
+            tag,
+            ic,
             seq: seq % 4,
-            mtu: mtu,
+            mtu,
             first: true,
             done: false,
-            cookie: cookie,
+            cookie,
             payload_used: 0,
         })
     }
@@ -193,19 +193,16 @@ impl Fragmenter {
     fn header(self, eom: bool) -> Header
         ensures { result ≡ header_for self eom }
     {
-        let tag = self.tag;
-        let source = self.src;
-        let dest = self.dest;
         let key = Key {
-            source: source,
-            dest: dest,
-            owner: tag.is_owner(),
-            tag: tag.tag(),
+            source: self.src,
+            dest: self.dest,
+            owner: self.tag.is_owner(),
+            tag: self.tag.tag(),
         };
         Header {
-            key: key,
+            key,
             som: self.first,
-            eom: eom,
+            eom,
             seq: self.seq,
         }
     }
@@ -215,24 +212,12 @@ impl Fragmenter {
         requires { self.payload_used + n < 2 ^ 64 }
         ensures { result ≡ advanced_by self n eom }
     {
-        let src = self.src;
-        let dest = self.dest;
-        let typ = self.typ;
-        let tag = self.tag;
-        let ic = self.ic;
-        let cookie = self.cookie;
         Fragmenter {
-            src: src,
-            dest: dest,
-            typ: typ,
-            tag: tag,
-            ic: ic,
             seq: (self.seq % 4 + 1) % 4,
-            mtu: self.mtu,
             first: false,
             done: eom,
-            cookie: cookie,
             payload_used: self.payload_used + n,
+            ..self
         }
     }
 
@@ -245,13 +230,10 @@ impl Fragmenter {
         let start = mctp::body_start(self.first);
         let n = (size - used).min(room.min(self.mtu).saturating_sub(start));
         let eom = used + n == size;
-        let header = self.header(eom);
-        let next = self.advanced(n, eom);
-        let kind = mctp::encode_type_ic(self.typ, self.ic);
         Cut {
-            next,
-            header,
-            kind,
+            next: self.advanced(n, eom),
+            header: self.header(eom),
+            kind: mctp::encode_type_ic(self.typ, self.ic),
             from: used,
             len: n,
             total: start + n,
@@ -259,34 +241,35 @@ impl Fragmenter {
     }
 
     // What a step does with a payload and a packet buffer of these sizes, in the order of docs/RULES.md 30 to 33.
+    #[tactic(auto, unfolding(octets::specs::Pick::pick, crate::specs::Step::plan_of))]
     pub fn plan(self, size: usize, room: usize) -> Plan
         ensures plan { result ≡ plan_of self size room }
         ensures fits { Writable result size room }
     {
-        let tag = self.tag;
         let cookie = self.cookie;
         if self.done {
             return Plan::Still(SendOutput::Complete {
-                tag: tag,
-                cookie: cookie,
+                tag: self.tag,
+                cookie,
             });
         }
         if room < mctp::body_start(self.first) {
             return Plan::Still(SendOutput::Error {
                 err: Error::NoSpace,
-                cookie: cookie,
+                cookie,
             });
         }
         if size < self.payload_used {
             return Plan::Still(SendOutput::Error {
                 err: Error::InvalidInput,
-                cookie: cookie,
+                cookie,
             });
         }
         Plan::Emits(self.emit(size, room))
     }
 
     // Writes what one step writes: its packet over the front of the buffer. A refused or finished step writes nothing.
+    #[tactic(auto, unfolding(octets::specs::Pick::pick, crate::specs::Step::plan_of, crate::specs::Step::step_of, crate::specs::Step::written_by))]
     pub fn write(self, payload: &[u8], out: &mut [u8])
         ensures { out.new ≡ over 0 (step_of self payload.now (length out.old)).bytes out.old }
     {
@@ -295,6 +278,7 @@ impl Fragmenter {
     }
 
     // One step. The same payload is lent at every step.
+    #[tactic(auto, unfolding(octets::specs::Pick::pick, crate::specs::Step::plan_of, crate::specs::Step::step_of, crate::specs::Step::next_by, crate::specs::Step::output_by, crate::specs::Step::written_by))]
     pub fn step(self, payload: &[u8], out: &mut [u8]) -> Fragmented
         ensures answer { result ≡ (step_of self payload.now (length out.old)).result }
         ensures bytes { out.new ≡ over 0 (step_of self payload.now (length out.old)).bytes out.old }
@@ -303,10 +287,7 @@ impl Fragmenter {
         let next = plan.next(self);
         let output = plan.output();
         write_plan(plan, payload, out);
-        Fragmented {
-            next: next,
-            output: output,
-        }
+        Fragmented { next, output }
     }
 
     // The same step on a fragmenter that is lent and changed in place.
@@ -315,8 +296,7 @@ impl Fragmenter {
         ensures next { self.new ≡ (step_of self.old payload.now (length out.old)).result.next }
         ensures bytes { out.new ≡ over 0 (step_of self.old payload.now (length out.old)).bytes out.old }
     {
-        let f = *self;
-        let r = f.step(payload, out);
+        let r = self.step(payload, out);
         *self = r.next;
         r.output
     }

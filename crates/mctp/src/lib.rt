@@ -6,28 +6,28 @@
 
 ghost use Rattle.std.specs.Prelude.{◌≡◌, ◌≤◌, ◌<◌};
 ghost use Rattle.octets.specs.Bytes.{le};
-ghost use Rattle.mctp.specs.Terms.{normal_eid, error_no, tag_of, is_owner, tag_under, same_bool, cookie_no, cookie_value, cookie_of};
+ghost use Rattle.mctp.specs.Terms.{normal_eid, error_no, tag_of, is_owner, tag_under, cookie_no, cookie_value, cookie_of};
 ghost use Rattle.mctp.specs.Header.{header_of, header_bytes, bit, type_byte, type_of, lead, flags_of};
 
 use std::fmt;
 
-#[derive(Clone, Copy)]
+#[derive(Clone, Copy, Debug, PartialEq, Eq)]
 pub struct Eid(pub u8);
 
-#[derive(Clone, Copy)]
+#[derive(Clone, Copy, Debug, PartialEq, Eq)]
 pub struct TagValue(pub u8);
 
-#[derive(Clone, Copy)]
+#[derive(Clone, Copy, Debug, PartialEq, Eq)]
 pub struct MsgType(pub u8);
 
-#[derive(Clone, Copy)]
+#[derive(Clone, Copy, Debug, PartialEq, Eq)]
 pub struct MsgIC(pub bool);
 
-#[derive(Clone, Copy)]
+#[derive(Clone, Copy, Debug, PartialEq, Eq)]
 pub struct AppCookie(pub u64);
 
 // A tag, and whose it is: an owned tag has TO=1 on the wire.
-#[derive(Clone, Copy)]
+#[derive(Clone, Copy, Debug, PartialEq, Eq)]
 pub enum Tag {
     Owned(TagValue),
     Unowned(TagValue),
@@ -45,7 +45,7 @@ pub enum Error {
 }
 
 // A packet's key, which tells the message that the packet belongs to.
-#[derive(Clone, Copy)]
+#[derive(Clone, Copy, Debug, PartialEq, Eq)]
 pub struct Key {
     pub source: Eid,
     pub dest: Eid,
@@ -53,7 +53,7 @@ pub struct Key {
     pub tag: TagValue,
 }
 
-#[derive(Clone, Copy)]
+#[derive(Clone, Copy, Debug, PartialEq, Eq)]
 pub struct Header {
     pub key: Key,
     pub som: bool,
@@ -61,7 +61,7 @@ pub struct Header {
     pub seq: u8,
 }
 
-#[derive(Clone, Copy)]
+#[derive(Clone, Copy, Debug, PartialEq, Eq)]
 pub struct TypeIC {
     pub typ: MsgType,
     pub ic: MsgIC,
@@ -75,45 +75,42 @@ impl Eid {
     pub const ANY: Eid = Eid(255);
 
     // An EID that an endpoint can have as its own: 8 to 254.
+    #[tactic(auto, unfolding(octets::specs::Pick::pick, crate::specs::Terms::normal_eid))]
     pub fn new_normal(eid: u8) -> Result<Eid, Error>
         ensures { result ≡ normal_eid eid }
     {
-        if eid < 8 {
-            return Err(Error::InvalidInput);
+        if (8..=254).contains(&eid) {
+            Ok(Eid(eid))
+        } else {
+            Err(Error::InvalidInput)
         }
-        if 254 < eid {
-            return Err(Error::InvalidInput);
-        }
-        Ok(Eid(eid))
     }
 }
 
 impl Tag {
+    #[tactic(auto, unfolding(octets::specs::Pick::pick, crate::specs::Terms::tag_under))]
     pub fn of(owner: bool, tag: TagValue) -> Tag
         ensures { result ≡ tag_under owner tag }
     {
         if owner {
-            return Tag::Owned(tag);
+            Tag::Owned(tag)
+        } else {
+            Tag::Unowned(tag)
         }
-        Tag::Unowned(tag)
     }
 
     pub fn tag(self) -> TagValue
         ensures { result ≡ tag_of self }
     {
         match self {
-            Tag::Owned(t) => t,
-            Tag::Unowned(t) => t,
+            Tag::Owned(t) | Tag::Unowned(t) => t,
         }
     }
 
     pub fn is_owner(self) -> bool
         ensures { result ≡ is_owner self }
     {
-        match self {
-            Tag::Owned(_) => true,
-            Tag::Unowned(_) => false,
-        }
+        matches!(self, Tag::Owned(_))
     }
 }
 
@@ -121,28 +118,20 @@ impl Tag {
 pub fn cookie_no(c: Option<AppCookie>) -> u8
     ensures { (result ≡ cookie_no c) × (result < 2) }
 {
-    match c {
-        None => 0,
-        Some(_) => 1,
-    }
+    u8::from(c.is_some())
 }
 
 pub fn cookie_value(c: Option<AppCookie>) -> u64
     ensures { result ≡ cookie_value c }
 {
-    match c {
-        None => 0,
-        Some(c) => c.0,
-    }
+    c.map_or(0, |c| c.0)
 }
 
+#[tactic(auto, unfolding(octets::specs::Pick::pick, crate::specs::Terms::cookie_of))]
 pub fn cookie_of(present: u8, value: u64) -> Option<AppCookie>
     ensures { result ≡ cookie_of present value }
 {
-    if present == 1 {
-        return Some(AppCookie(value));
-    }
-    None
+    (present == 1).then_some(AppCookie(value))
 }
 
 impl Error {
@@ -174,26 +163,15 @@ impl fmt::Display for Error {
     }
 }
 
-pub fn same_bool(a: bool, b: bool) -> bool
-    ensures { result ≡ same_bool a b }
-{
-    if a {
-        return b;
-    }
-    !b
-}
-
 // `n` where the bit is set, else 0.
 pub fn bit_of(set: bool, n: u8) -> u8
     ensures { (result ≡ bit set n) × (result ≤ n) }
 {
-    if set {
-        return n;
-    }
-    0
+    if set { n } else { 0 }
 }
 
 // The header of a packet; it is bad when the packet has under 4 bytes or another version.
+#[tactic(auto, unfolding(octets::specs::Pick::pick, crate::specs::Header::header_of))]
 pub fn read_header(packet: &[u8]) -> Option<Header>
     ensures { result ≡ header_of packet.now }
 {
@@ -203,18 +181,15 @@ pub fn read_header(packet: &[u8]) -> Option<Header>
     if packet[0] % 16 != 1 {
         return None;
     }
-    let dest = Eid(packet[1]);
-    let source = Eid(packet[2]);
     let b = packet[3];
-    let tag = TagValue(b % 8);
     let key = Key {
-        source: source,
-        dest: dest,
+        source: Eid(packet[2]),
+        dest: Eid(packet[1]),
         owner: b / 8 % 2 == 1,
-        tag: tag,
+        tag: TagValue(b % 8),
     };
     Some(Header {
-        key: key,
+        key,
         som: b / 128 == 1,
         eom: b / 64 % 2 == 1,
         seq: b / 16 % 4,
@@ -235,33 +210,31 @@ pub fn flags(h: Header) -> u8
 pub fn body_start(som: bool) -> usize
     ensures { result ≡ lead som }
 {
-    if som {
-        return 5;
-    }
-    4
+    if som { 5 } else { 4 }
 }
 
 // The four bytes of a header as one number, byte 0 lowest.
+#[tactic(auto, using(crate::proofs::Wire::le_four))]
 pub fn encode_header(h: Header) -> u32
     ensures { le 4 result ≡ header_bytes h }
 {
     let b = flags(h);
     let dest = h.key.dest.0;
     let source = h.key.source.0;
-    1 + 256 * (dest as u32 + 256 * (source as u32 + 256 * (b as u32)))
+    1 + 256 * (u32::from(dest) + 256 * (u32::from(source) + 256 * u32::from(b)))
 }
 
 pub fn encode_type_ic(typ: MsgType, ic: MsgIC) -> u8
     ensures { result ≡ type_byte typ ic }
 {
-    let i = bit_of(ic.0, 128);
-    i + typ.0 % 128
+    bit_of(ic.0, 128) + typ.0 % 128
 }
 
 pub fn decode_type_ic(b: u8) -> TypeIC
     ensures { result ≡ type_of b }
 {
-    let typ = MsgType(b % 128);
-    let ic = MsgIC(b / 128 == 1);
-    TypeIC { typ: typ, ic: ic }
+    TypeIC {
+        typ: MsgType(b % 128),
+        ic: MsgIC(b / 128 == 1),
+    }
 }

@@ -8,12 +8,12 @@ ghost use Rattle.std.specs.Prelude.{◌≡◌, ◌+◌, ◌≤◌, ◌<◌, ◌^
 ghost use Rattle.reassemble.specs.Enter.{is_local, local_packet, opening, opened, gate_reply, begun, appended, append, enter, Planned};
 ghost use Rattle.reassemble.specs.declared.Intake.{Intake};
 
-use mctp::{Eid, Error, Header, MsgIC, MsgType, AppCookie};
+use mctp::{AppCookie, Eid, Error, Header, MsgIC, MsgType};
 use slot::{Reassembler, State};
 use stamp::EventStamp;
 
 // The slot's next record, and where in its body the packet's bytes from `from` on go; `whole`: the message ends with this packet.
-#[derive(Clone, Copy)]
+#[derive(Clone, Copy, Debug, PartialEq, Eq)]
 pub struct Intake {
     pub slot: Reassembler,
     pub at: usize,
@@ -22,62 +22,42 @@ pub struct Intake {
 }
 
 // Whether the destination is the own EID or 0.
+#[tactic(auto, unfolding(octets::specs::Pick::pick, crate::specs::Enter::is_local))]
 fn is_local(own: Eid, dest: Eid) -> bool
     ensures { result ≡ is_local own dest }
 {
-    if dest.0 == own.0 {
-        return true;
-    }
-    dest.0 == Eid::NULL.0
+    dest == own || dest == Eid::NULL
 }
 
 // Whether a packet has a good header and goes to the own EID or 0.
 pub fn is_local_dest(own: Eid, packet: &[u8]) -> bool
     ensures { result ≡ local_packet own packet.now }
 {
-    match mctp::read_header(packet) {
-        Some(h) => is_local(own, h.key.dest),
-        None => false,
-    }
+    mctp::read_header(packet).is_some_and(|h| is_local(own, h.key.dest))
 }
 
 // Whether a header may open an empty slot: its destination is the own EID or 0, its source is not 255, and it has SOM.
+#[tactic(auto, unfolding(octets::specs::Pick::pick, crate::specs::Enter::opening))]
 pub fn opens(own: Eid, h: Header) -> bool
     ensures { result ≡ opening own h }
 {
-    if is_local(own, h.key.dest) {
-        if h.key.source.0 == Eid::ANY.0 {
-            return false;
-        }
-        return h.som;
-    }
-    false
+    is_local(own, h.key.dest) && h.key.source != Eid::ANY && h.som
 }
 
 // A slot that collects under a key, with nothing in it.
 pub fn open(h: Header, cookie: Option<AppCookie>) -> Reassembler
     ensures { result ≡ opened h cookie }
 {
-    let key = h.key;
-    let typ = MsgType(0);
-    let ic = MsgIC(false);
-    let stamp = EventStamp {
-        clock: 0,
-        counter: 0,
-    };
     Reassembler {
         state: State::Collecting,
-        key: key,
-        typ: typ,
-        ic: ic,
-        next_seq: 0,
-        len: 0,
-        cookie: cookie,
-        stamp: stamp,
+        key: h.key,
+        cookie,
+        ..slot::blank()
     }
 }
 
 // A reply opens a slot only where its flow stands, and takes the flow's cookie.
+#[tactic(auto, unfolding(octets::specs::Pick::pick, crate::specs::Enter::gate_reply))]
 pub fn gate_reply(h: Header, stands: bool, cookie: Option<AppCookie>) -> Result<Reassembler, Error>
     ensures { result ≡ gate_reply h stands cookie }
 {
@@ -92,72 +72,45 @@ fn begin(s: Reassembler, h: Header, kind: u8, stamp: EventStamp) -> Reassembler
     ensures { result ≡ begun stamp h kind s }
 {
     let t = mctp::decode_type_ic(kind);
-    let state = s.state;
-    let key = s.key;
-    let typ = t.typ;
-    let ic = t.ic;
-    let cookie = s.cookie; // a collecting slot keeps its cookie
-    let len = 0;
     Reassembler {
-        state: state,
-        key: key,
-        typ: typ,
-        ic: ic,
+        typ: t.typ,
+        ic: t.ic,
         next_seq: h.seq,
-        len: len,
-        cookie: cookie,
-        stamp: stamp,
+        len: 0,
+        stamp,
+        ..s
     }
 }
 
 // Rules 49 and 50: the slot with n more bytes; with EOM it is done and stamped, and its handle is out.
+#[tactic(auto, unfolding(octets::specs::Pick::pick))]
 fn grow(s: Reassembler, eom: bool, stamp: EventStamp, issue: u64, n: usize) -> Reassembler
     requires { s.len + n < 2 ^ 64 }
     ensures { result ≡ appended eom stamp issue n s }
 {
-    let key = s.key;
-    let typ = s.typ;
-    let ic = s.ic;
-    let cookie = s.cookie;
     let next_seq = (s.next_seq % 4 + 1) % 4;
     let len = s.len + n;
     if eom {
         return Reassembler {
             state: State::HandleOut(issue),
-            key: key,
-            typ: typ,
-            ic: ic,
-            next_seq: next_seq,
-            len: len,
-            cookie: cookie,
-            stamp: stamp,
+            next_seq,
+            len,
+            stamp,
+            ..s
         };
     }
-    let state = s.state;
-    let old = s.stamp;
-    Reassembler {
-        state: state,
-        key: key,
-        typ: typ,
-        ic: ic,
-        next_seq: next_seq,
-        len: len,
-        cookie: cookie,
-        stamp: old,
-    }
+    Reassembler { next_seq, len, ..s }
 }
 
 // Whether n more bytes are too many for a body of `len` bytes that may have at most `most`.
 fn overfills(len: usize, n: usize, most: usize) -> bool
     ensures { result ≡ ltb most (len + n) }
 {
-    if most < len {
-        return true;
-    }
-    most - len < n
+    most < len || most - len < n
 }
 
 // Rules 47 to 50 for a packet whose body starts at `start`; `most` is the most bytes that a body holds.
+#[tactic(auto, unfolding(octets::specs::Pick::pick, crate::specs::Enter::append))]
 fn accept(
     s: Reassembler,
     h: Header,
@@ -173,15 +126,13 @@ fn accept(
         return Err(Error::InvalidInput); // rule 47
     }
     let n = packet.len().saturating_sub(start);
-    let len = s.len;
-    let over = overfills(len, n, most);
-    if over {
+    if overfills(s.len, n, most) {
         return Err(Error::NoSpace); // rule 48
     }
     let slot = grow(s, h.eom, stamp, issue, n);
     Ok(Intake {
-        slot: slot,
-        at: len,
+        slot,
+        at: s.len,
         from: start,
         whole: h.eom,
     })

@@ -8,28 +8,26 @@ ghost use Rattle.std.specs.Prelude.{◌≡◌, false};
 ghost use Rattle.slot.specs.Handle.{next_issue};
 ghost use Rattle.slot.specs.Slot.{blank_slot, state_no, is_empty, is_done, handle_is, handle_taken, is_reply, kept_under, slot_timeout, with_state, with_slot_cookie};
 
-use mctp::{Eid, Key, MsgIC, MsgType, TagValue, AppCookie};
+use mctp::{AppCookie, Eid, Key, MsgIC, MsgType, TagValue};
 use stamp::{EventStamp, Timeout};
 
 // A slot's index, and the number under which its handle went out.
-#[derive(Clone, Copy)]
+#[derive(Clone, Copy, Debug, PartialEq, Eq)]
 pub struct ReceiveHandle {
     pub index: usize,
     pub issue: u64,
 }
 
 // The number of the next handle that goes out.
+#[tactic(auto, unfolding(octets::specs::Pick::pick, crate::specs::Handle::next_issue))]
 pub fn next_issue(issue: u64) -> u64
     ensures { result ≡ next_issue issue }
 {
-    if issue < 18446744073709551615 {
-        return issue + 1;
-    }
-    issue
+    issue.saturating_add(1)
 }
 
 // Empty, collecting, or done: with no handle out, or with one of that issue number.
-#[derive(Clone, Copy)]
+#[derive(Clone, Copy, Debug, PartialEq, Eq)]
 pub enum State {
     Empty,
     Collecting,
@@ -37,7 +35,7 @@ pub enum State {
     HandleOut(u64),
 }
 
-#[derive(Clone, Copy)]
+#[derive(Clone, Copy, Debug, PartialEq, Eq)]
 pub struct Reassembler {
     pub state: State,
     pub key: Key,
@@ -53,29 +51,25 @@ pub struct Reassembler {
 pub fn blank() -> Reassembler
     ensures { result ≡ blank_slot }
 {
-    let eid = Eid(0);
-    let tag = TagValue(0);
     let key = Key {
-        source: eid,
-        dest: eid,
+        source: Eid(0),
+        dest: Eid(0),
         owner: false,
-        tag: tag,
+        tag: TagValue(0),
     };
-    let typ = MsgType(0);
-    let ic = MsgIC(false);
     let stamp = EventStamp {
         clock: 0,
         counter: 0,
     };
     Reassembler {
         state: State::Empty,
-        key: key,
-        typ: typ,
-        ic: ic,
+        key,
+        typ: MsgType(0),
+        ic: MsgIC(false),
         next_seq: 0,
         len: 0,
         cookie: None,
-        stamp: stamp,
+        stamp,
     }
 }
 
@@ -84,8 +78,7 @@ impl Reassembler {
     pub fn phase(self) -> u8
         ensures { result ≡ state_no self.state }
     {
-        let state = self.state;
-        match state {
+        match self.state {
             State::Empty => 0,
             State::Collecting => 1,
             State::Done => 2,
@@ -96,113 +89,79 @@ impl Reassembler {
     pub fn is_empty(self) -> bool
         ensures { result ≡ is_empty self }
     {
-        self.phase() == 0
+        self.state == State::Empty
     }
 
     // Whether it is done with no handle out.
     pub fn is_done(self) -> bool
         ensures { result ≡ is_done self }
     {
-        self.phase() == 2
+        self.state == State::Done
     }
 
     // Whether a handle is out.
     pub fn handle_taken(self) -> bool
         ensures { result ≡ handle_taken self }
     {
-        self.phase() == 3
+        matches!(self.state, State::HandleOut(_))
     }
 
     // Whether the handle of that issue number is out.
     pub fn handle_is(self, issue: u64) -> bool
         ensures { result ≡ handle_is issue self }
     {
-        let state = self.state;
-        match state {
-            State::Empty => false,
-            State::Collecting => false,
-            State::Done => false,
-            State::HandleOut(n) => n == issue,
-        }
-    }
-
-    // The same slot in another state and under another cookie.
-    fn with(self, state: State, cookie: Option<AppCookie>) -> Reassembler
-        ensures { result ≡ with_state state (with_slot_cookie cookie self) }
-    {
-        let key = self.key;
-        let typ = self.typ;
-        let ic = self.ic;
-        let stamp = self.stamp;
-        Reassembler {
-            state: state,
-            key: key,
-            typ: typ,
-            ic: ic,
-            next_seq: self.next_seq,
-            len: self.len,
-            cookie: cookie,
-            stamp: stamp,
-        }
+        self.state == State::HandleOut(issue)
     }
 
     pub fn take_handle(self, issue: u64) -> Reassembler
         ensures { result ≡ with_state (State.HandleOut issue) self }
     {
-        let cookie = self.cookie;
-        self.with(State::HandleOut(issue), cookie)
+        Reassembler {
+            state: State::HandleOut(issue),
+            ..self
+        }
     }
 
     pub fn return_handle(self) -> Reassembler
         ensures { result ≡ with_state State.Done self }
     {
-        let cookie = self.cookie;
-        self.with(State::Done, cookie)
+        Reassembler {
+            state: State::Done,
+            ..self
+        }
     }
 
     pub fn set_cookie(self, cookie: Option<AppCookie>) -> Reassembler
         ensures { result ≡ with_slot_cookie cookie self }
     {
-        let state = self.state;
-        self.with(state, cookie)
+        Reassembler { cookie, ..self }
     }
 
     // What is left of the slot's time; no time runs for an empty slot or one with a handle out.
     pub fn check_expired(self, now: u64) -> Timeout
         ensures { result ≡ slot_timeout now self }
     {
-        let state = self.state;
-        let stamp = self.stamp;
-        match state {
-            State::Empty => Timeout::Untimed,
-            State::Collecting => stamp.check_timeout(now, config::REASSEMBLY_EXPIRY_TIMEOUT),
-            State::Done => stamp.check_timeout(now, config::REASSEMBLY_EXPIRY_TIMEOUT),
-            State::HandleOut(_) => Timeout::Untimed,
+        match self.state {
+            State::Empty | State::HandleOut(_) => Timeout::Untimed,
+            State::Collecting | State::Done => self
+                .stamp
+                .check_timeout(now, config::REASSEMBLY_EXPIRY_TIMEOUT),
         }
     }
 }
 
 // Whether it is from that peer, under that TO and tag.
+#[tactic(auto, unfolding(octets::specs::Pick::pick, mctp::specs::Terms::same_bool, crate::specs::Slot::kept_under))]
 pub fn is_from(s: Reassembler, peer: Eid, owner: bool, tag: TagValue) -> bool
     ensures { result ≡ kept_under peer owner tag s }
 {
-    if s.key.source.0 != peer.0 {
-        return false;
-    }
-    let same = mctp::same_bool(s.key.owner, owner);
-    if same {
-        return s.key.tag.0 == tag.0;
-    }
-    false
+    s.key.source == peer && s.key.owner == owner && s.key.tag == tag
 }
 
 // Whether the slot is not empty and holds a reply of that peer and tag.
+#[tactic(auto, unfolding(octets::specs::Pick::pick, crate::specs::Slot::is_reply))]
 pub fn is_reply(s: Reassembler, peer: Eid, tag: TagValue) -> bool
     ensures { result ≡ is_reply peer tag s }
 {
-    let empty = s.is_empty();
-    if empty {
-        return false;
-    }
-    is_from(s, peer, false, tag)
+    !s.is_empty() && is_from(s, peer, false, tag)
 }

@@ -9,14 +9,14 @@ ghost use Rattle.stamp.specs.Checks.{check_of};
 ghost use Rattle.stamp.specs.Stamp.{next, clocked, earlier, timeout_of, is_expired, sooner_of};
 
 // Stamps are ordered by clock and then by counter.
-#[derive(Clone, Copy)]
+#[derive(Clone, Copy, Debug, PartialEq, Eq, PartialOrd, Ord)]
 pub struct EventStamp {
     pub clock: u64,
     pub counter: u32,
 }
 
 // What is left of a timeout: no time runs, the time is over, or so many milliseconds are left.
-#[derive(Clone, Copy)]
+#[derive(Clone, Copy, Debug, PartialEq, Eq)]
 pub enum Timeout {
     Untimed,
     Expired,
@@ -27,11 +27,7 @@ impl Timeout {
     pub fn is_expired(self) -> bool
         ensures { result ≡ is_expired self }
     {
-        match self {
-            Timeout::Untimed => false,
-            Timeout::Expired => true,
-            Timeout::Left(_) => false,
-        }
+        matches!(self, Timeout::Expired)
     }
 
     // The smaller of a time and what is left.
@@ -39,8 +35,7 @@ impl Timeout {
         ensures { (result ≡ sooner_of self least) × (result ≤ least) }
     {
         match self {
-            Timeout::Untimed => least,
-            Timeout::Expired => least,
+            Timeout::Untimed | Timeout::Expired => least,
             Timeout::Left(n) => n.min(least),
         }
     }
@@ -48,19 +43,18 @@ impl Timeout {
 
 impl EventStamp {
     // The stamp of the next event: the counter goes up by 1, and stays at its largest value.
+    #[tactic(auto, unfolding(octets::specs::Pick::pick, crate::specs::Stamp::next))]
     pub fn increment(self) -> EventStamp
         ensures { result ≡ next self }
     {
-        if self.counter < 4294967295 {
-            return EventStamp {
-                clock: self.clock,
-                counter: self.counter + 1,
-            };
+        EventStamp {
+            counter: self.counter.saturating_add(1),
+            ..self
         }
-        self
     }
 
     // A later clock sets the counter to 0; any other leaves the stamp (a caller refuses an earlier one).
+    #[tactic(auto, unfolding(octets::specs::Pick::pick, crate::specs::Stamp::clocked))]
     pub fn update_clock(self, now: u64) -> EventStamp
         ensures { result ≡ clocked now self }
     {
@@ -73,19 +67,15 @@ impl EventStamp {
         self
     }
 
+    #[tactic(auto, unfolding(octets::specs::Pick::pick, crate::specs::Stamp::earlier))]
     pub fn is_before(self, other: EventStamp) -> bool
         ensures { result ≡ earlier self other }
     {
-        if self.clock < other.clock {
-            return true;
-        }
-        if other.clock < self.clock {
-            return false;
-        }
-        self.counter < other.counter
+        self < other
     }
 
     // What is left of a timeout at the clock `now`.
+    #[tactic(auto, unfolding(octets::specs::Pick::pick, crate::specs::Stamp::expired, crate::specs::Stamp::timeout_of))]
     pub fn check_timeout(self, now: u64, timeout: u32) -> Timeout
         ensures { result ≡ timeout_of self now timeout }
     {
@@ -93,15 +83,16 @@ impl EventStamp {
             return Timeout::Expired;
         }
         let age = now - self.clock;
-        if (timeout as u64) < age {
+        let timeout = u64::from(timeout);
+        if timeout < age {
             return Timeout::Expired;
         }
-        Timeout::Left((timeout as u64 - age) as u32)
+        Timeout::Left((timeout - age) as u32)
     }
 }
 
 // What a check of time found so far: the least remaining time, and whether anything expired.
-#[derive(Clone, Copy)]
+#[derive(Clone, Copy, Debug, PartialEq, Eq)]
 pub struct Check {
     pub least: u32,
     pub expired: bool,
@@ -109,20 +100,13 @@ pub struct Check {
 
 impl Check {
     // The check with one more time noted: the sooner of the two, and expired where either is.
+    #[tactic(auto, unfolding(octets::specs::Pick::pick, crate::specs::Checks::least_left, crate::specs::Checks::any_expired))]
     pub fn noted(self, t: Timeout) -> Check
         ensures { result ≡ check_of (t ∷ []) self }
     {
-        let least = t.sooner(self.least);
-        let expired = t.is_expired();
-        if expired {
-            return Check {
-                least: least,
-                expired: true,
-            };
-        }
         Check {
-            least: least,
-            expired: self.expired,
+            least: t.sooner(self.least),
+            expired: t.is_expired() || self.expired,
         }
     }
 }

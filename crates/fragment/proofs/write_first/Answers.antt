@@ -2,16 +2,9 @@
 use native.Mathlib.Omega.{arith}
 use mathlib.Core.Path.{refl}
 use mathlib.Core.List.{[], ◌∷◌, ◌++◌}
-use lib.ListN.{length-set}
 use Rattle.mctp.specs.Header.{header_bytes}
 use Rattle.fragment.proofs.Lent.{headed, typed, front_copied}
 use Rattle.fragment.proofs.write_first.Goals as goal
-
-pub slice_bounds-copy-count : goal.slice_bounds-copy-count
-slice_bounds-copy-count c = simp length-set (omega arith)
-
-pub slice_bounds-copy-start : goal.slice_bounds-copy-start
-slice_bounds-copy-start c = simp length-set (omega arith)
 
 pub returns : goal.returns
 returns c =
