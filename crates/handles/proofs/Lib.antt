@@ -1,2 +1,2 @@
--- What a good handle is, and what the calls under one store.
+-- What a search for the earliest message finds.
 pub mod HandleLaws

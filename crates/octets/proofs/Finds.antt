@@ -1,4 +1,4 @@
--- Laws of `find`, for a loop that walks a list upward: what it finds, and what a store changes in that.
+-- Laws of `find` and `first`, for a search or a loop that walks a list upward: what it finds, and what a store changes in that.
 use Prim.Native.Nat.{ℕ, zero, suc, ◌+◌, ◌≤◌, ◌<◌}
 use native.Mathlib.Omega.{arith}
 use mathlib.Core.Path.{◌≡◌, refl, sym, ap, ◌∙◌}

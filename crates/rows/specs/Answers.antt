@@ -1,5 +1,5 @@
 -- What a fragment step leaves in the words that it is lent: the length of its packet, and the fragmenter's row.
--- What every other call leaves is `row_after` of its answer (mctp, Answer); the answers stand beside their enums (`received_as`, `updated_as`, ..).
+-- What every other call leaves is `row_after` of its answer (mctp, Answer); the answers stand in the crates of the calls (`received_as`, `updated_as`, ..).
 -- Leans on `mctp` for an answer, on `fragment` for a step's answer, on `Words` for the row after a packet.
 use Rattle.std.specs.Prelude.{ℕ, List}
 use Rattle.mctp.specs.Answer.{Answer, gives, refuses}

@@ -1,6 +1,6 @@
-// Records as rows of 64-bit numbers: a send, a fragmenter, a message, a handle; and what a call answers in numbers (answers.rt).
+// Rows of 64-bit numbers read as records: a send, a fragmenter; and what a call answers in numbers, with the rows of what it tells (answers.rt).
 // Yes is written 1 and no 0; any number but 0 is read as yes. Definitions: specs/Words.antt, specs/Answers.antt.
-// Leans on `mctp`, `fragment`, `sending`, `slot` and `handles` for the records.
+// Leans on `mctp`, `fragment` and `sending` for the records.
 
 #![tactic(auto)]
 

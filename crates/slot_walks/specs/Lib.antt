@@ -1,4 +1,4 @@
 -- The definitions that the contracts of `slot_walks` cite, beside those of `slot` and `state`.
--- SlotWalks: a cancel's sweep, the better of two, a search's choice.
+-- SlotWalks: a cancel's sweep, the better of two, what a test computes.
 -- Leans on `slot` and `state`.
 pub mod SlotWalks

@@ -1,4 +1,4 @@
--- `remove_flow` meets its contract: the place found is cleared, and past the last place there is nothing to clear.
+-- `remove_flow` meets its contract: the place found is cleared, and where none is found there is nothing to clear.
 use Rattle.state.specs.Stack.{stack_of, with_flow, with_flows}
 use Rattle.flows.specs.declared.Flow.{Flow}
 use Rattle.flows.specs.Codec.{FlowOk}
