@@ -85,7 +85,7 @@ module _ {A : Type 0} (p : A → Bool) where
       let h = find_least l i d (omega arith) (λ k n. f (suc k) (omega arith)) in
       rw (f 0 (omega arith)) (omega arith)
 
-  -- a walk that has come to i knows `i ≤ find p l`. It ends with i where element i passes or the list ends, and otherwise it goes on
+  -- a place that passes, with the place found not before it, is the place found
   pub here : (l : List A) (i : ℕ) (d : A) → i ≤ find p l → i < length l → p (get_or l i d) ≡ true → i ≡ find p l
   unfolding find pick
   here [] i d h m t = absurd (omega arith)
@@ -93,18 +93,6 @@ module _ {A : Type 0} (p : A → Bool) where
   here (x ∷ l) (suc i) d h m t =
       let f : p x ≡ false = find_first (x ∷ l) 0 d (omega arith) in
       rw f (ap suc (here l i d (omega (arith, rw f at h)) (omega arith) t))
-
-  pub next : (l : List A) (i : ℕ) (d : A) → i ≤ find p l → i < length l → p (get_or l i d) ≡ false → i + 1 ≤ find p l
-  unfolding find pick
-  next [] i d h m f = absurd (omega arith)
-  next (x ∷ l) zero d h m f = rw f (omega arith)
-  next (x ∷ l) (suc i) d h m f =
-      let g : p x ≡ false = find_first (x ∷ l) 0 d (omega arith) in
-      let k = next l i d (omega (arith, rw g at h)) (omega arith) f in
-      rw g (omega arith)
-
-  pub none : (l : List A) (i : ℕ) → i ≤ find p l → length l ≤ i → i ≡ find p l
-  none l i h m = let b = find_bound l in omega arith
 
   -- a place that passes, with none before it that does, is the place found
   pub find_at : (l : List A) (i : ℕ) (d : A) → i < length l → p (get_or l i d) ≡ true → ((k : ℕ) → k < i → p (get_or l k d) ≡ false) → find p l ≡ i

@@ -1,4 +1,4 @@
--- Walks over the slots for the first one that passes a test (upward), and for the earliest (downward): what is known on the way, for any test.
+-- A walk over the slots for the earliest one that passes a test (downward): what is known on the way, for any test.
 use Prim.Native.Nat.{ℕ, zero, suc, ◌+◌, ◌-◌, ◌≤◌, ◌<◌}
 use native.Mathlib.Nat.{zero-add}
 use native.Mathlib.Omega.{arith}
@@ -9,28 +9,15 @@ use lib.Dec.{ltb}
 use lib.ListN.{length, drop, length-drop}
 use borrow.Author.Tests.{lt-ltb, le-ltb}
 use Rattle.octets.specs.Pick.{pick, pick_true, pick_false}
-use Rattle.octets.specs.Find.{find}
-use Rattle.octets.proofs.Finds.{here, next, none}
 use Rattle.stamp.specs.Stamp.{earlier}
 use Rattle.slot.specs.declared.Reassembler.{Reassembler}
-use Rattle.slot.specs.Slot.{is_done, blank_slot}
+use Rattle.slot.specs.Slot.{is_done}
 use Rattle.slot.specs.Search.{earliest}
 use Rattle.slot.proofs.Searches.{earliest_bound, earliest_end, earliest_down}
 use Rattle.state.specs.declared.Sizes.{Sizes}
 use Rattle.state.specs.Stack.{stack_of, slot_at}
 use Rattle.state.proofs.StackLaws.{slots_length}
 use Rattle.slot_walks.specs.SlotWalks.{better_of}
-
--- the first slot that passes p; no slot before i does
-module _ (z : Sizes) (b : List ℕ) (p : Reassembler → Bool) (i : ℕ) (h : i ≤ find p (stack_of z b).slots) where
-  pub find_here : i < z.slots → p (slot_at i (stack_of z b)) ≡ true → (i ≡ find p (stack_of z b).slots) × (i ≤ z.slots)
-  find_here m e = (here p (stack_of z b).slots i blank_slot h (rw (slots_length z b) m) e, omega arith)
-
-  pub find_on : i < z.slots → p (slot_at i (stack_of z b)) ≡ false → (i + 1 ≤ z.slots) × (i + 1 ≤ find p (stack_of z b).slots)
-  find_on m e = (omega arith, next p (stack_of z b).slots i blank_slot h (rw (slots_length z b) m) e)
-
-  pub find_end : i ≤ z.slots → z.slots ≤ i → (i ≡ find p (stack_of z b).slots) × (i ≤ z.slots)
-  find_end w m = (none p (stack_of z b).slots i h (rw (slots_length z b) m), w)
 
 -- what `better` picks of slot i, which is read as t, and slot j, which is read as s
 module _ (z : Sizes) (b : List ℕ) (i j : ℕ) where
