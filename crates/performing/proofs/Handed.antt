@@ -14,6 +14,7 @@ use Rattle.state.specs.Stack.{stack_of, Kept}
 use Rattle.state.proofs.StackLaws.{slot_ok}
 use Rattle.slot.specs.declared.ReceiveHandle.{ReceiveHandle}
 use Rattle.receiving.specs.Conclude.{received_as}
+use Rattle.handles.specs.declared.Message.{Message as Facts}
 use Rattle.handles.specs.Handles.{fetched_as}
 use Rattle.promises.specs.Calls.{World, receive, fetch_message, step, steps, receipt}
 use Rattle.promises.specs.Delivery.{Message, Hands, Delivers, cookie_for, Lawful}
@@ -70,8 +71,8 @@ gives_from m h b p e k f o done =
     let g : Performs (fetch_message h (length p) ∷ []) b e.after e.lent e.left e.said = rw o at done in
     record {
       facts = f.facts;
-      said = g.said ∙ ap (λ (y : Result Message Error). answer_no (fetched_as y)) f.fetched;
-      told = g.message ∙ ap (λ (y : Result Message Error). row_after 10 (fetched_as y) e.lent.message) f.fetched;
+      said = g.said ∙ ap (λ (y : Result Facts Error). answer_no (fetched_as y)) f.fetched;
+      told = g.message ∙ ap (λ (y : Result Facts Error). row_after 10 (fetched_as y) e.lent.message) f.fetched;
       inside = fetch_inside 1032 h (stack_of board b) (length p) f.facts f.fetched (slot_ok board b k h.index).len;
       message = f.message;
     }
