@@ -60,6 +60,7 @@ pub fn hyphaloom_is_local_dest(state: &[u8], packet: &[u8]) -> bool
 }
 
 // Starts a send, and leaves the fragmenter that steps through its packets.
+#[tactic(auto, using(state::proofs::StackLaws::stays), unfolding(crate::specs::Board::start_of, octets::specs::Pick::pick))]
 pub fn hyphaloom_start_send(state: &mut [u8], send: &[u64; 10], fragmenter: &mut [u64; 13]) -> u8
     requires { Kept board state.old }
     ensures said { result ≡ answer_no (started_as (start_of send.now (stack_of board state.old)).said) }

@@ -22,7 +22,7 @@ use state::{Head, Sizes};
 pub use updating::update;
 
 // Makes a new stack in the front of a buffer; what lies past it stays.
-#[tactic(auto, unfolding(crate::specs::Basics::new_says, octets::specs::Pick::pick))]
+#[tactic(auto, using(state::proofs::Fresh::fresh_becomes), unfolding(crate::specs::Basics::new_says, octets::specs::Pick::pick))]
 pub fn new(state: &mut [u8], sizes: Sizes, own: Eid, mtu: usize, clock: u64) -> Result<(), Error>
     ensures said { result ≡ new_says sizes (length state.old) mtu }
     ensures stack { NewMakes result sizes own mtu clock state.old state.new }

@@ -14,6 +14,7 @@ use Rattle.state.specs.Stack.{stack_of, Kept}
 use Rattle.state.proofs.StackLaws.{slot_ok}
 use Rattle.slot.specs.declared.ReceiveHandle.{ReceiveHandle}
 use Rattle.receiving.specs.Conclude.{received_as}
+use Rattle.handles.specs.declared.Message.{Message as Facts}
 use Rattle.handles.specs.Handles.{fetched_as}
 use Rattle.promises.specs.Calls.{World, receive, fetch_message, step, steps, receipt}
 use Rattle.handles.specs.declared.Message.{Message as Facts}

@@ -82,7 +82,7 @@ cutting =
     ∷ []
 
 cutting_runs : CutRun cutting begun body
-unfolding CutRun step_of pick part over cookie_from tag_under
+unfolding CutRun step_of pick part over tag_under
 cutting_runs = (
   record { said = refl; len = refl; row = refl; left = refl },
   (
@@ -103,12 +103,12 @@ cutting_packets = refl
 -- ---- the start
 
 started : (start_send_of (send_of query) nine).said ≡ Ok (fragmenter_of begun)
-unfolding start_send_of send_as tag_for owned_tag set_flow fresh_flow with_tag insert_flow new_flow free_tag_of bits_of is_flow find next new_of pick cookie_from send_tag_from send_mtu_from tag_under
+unfolding start_send_of send_as tag_for owned_tag set_flow fresh_flow with_tag insert_flow new_flow free_tag_of bits_of is_flow find next new_of pick send_tag_from tag_under
 started = refl
 
 -- a start on a fresh stack is answered 0, and leaves that row
 begins : (b : List ℕ) (d : Deed) → stack_of board b ≡ nine → d.calls ≡ start_send (send_of query) ∷ [] → Done d b → (d.said ≡ 0) × (d.left.fragmenter ≡ begun)
-unfolding tells pick cookie_from tag_under
+unfolding tells pick tag_under
 begins b d e o done =
     let g : Performs (start_send (send_of query) ∷ []) b d.after d.lent d.left d.said = rw o at done in
     let s : (start_send_of (send_of query) (stack_of board b)).said ≡ Ok (fragmenter_of begun) = ap (λ (st : Stack). (start_send_of (send_of query) st).said) e ∙ started in (
