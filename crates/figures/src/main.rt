@@ -54,13 +54,7 @@ fn sends(rt: &impl Print, state: &mut [u8]) -> io::Result<()>
     requires { 2248 ≤ length state.old }
 {
     packets_of(rt, state, "send aa bb cc:", None, b"\xaa\xbb\xcc")?;
-    packets_of(
-        rt,
-        state,
-        "\nwith MTU 6:",
-        Some(6),
-        b"\xaa\xbb\xcc",
-    )?;
+    packets_of(rt, state, "\nwith MTU 6:", Some(6), b"\xaa\xbb\xcc")?;
     packets_of(rt, state, "\nempty payload:", None, b"")
 }
 
@@ -68,15 +62,7 @@ fn with_mtu(rt: &impl Print, state: &mut [u8], text: &str, mtu: usize) -> io::Re
     requires { 2248 ≤ length state.old }
 {
     fresh_stack(state, 300);
-    first_packet(
-        rt,
-        state,
-        text,
-        PEER,
-        Some(mtu),
-        b"\xaa\xbb\xcc",
-        ROOM,
-    )
+    first_packet(rt, state, text, PEER, Some(mtu), b"\xaa\xbb\xcc", ROOM)
 }
 
 fn mtus(rt: &impl Print, state: &mut [u8]) -> io::Result<()>

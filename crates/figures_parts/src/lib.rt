@@ -14,12 +14,12 @@ ghost use Rattle.updating.specs.Update.{update_of};
 ghost use Rattle.board.specs.Board.{board};
 ghost use Rattle.figures_parts.specs.Figure.{bay_stack, asked};
 
-use updating::Next;
 use estack::{Message, ReceiveHandle, Send};
 use fragment::{Fragmented, Fragmenter, SendOutput};
 use mctp::{Eid, Error, MsgIC, MsgType};
 use state::Sizes;
 use std::io;
+use updating::Next;
 
 // ---- writing
 
