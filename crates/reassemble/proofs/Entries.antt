@@ -7,12 +7,13 @@ use mathlib.Core.Bool.{Bool, true, false}
 use mathlib.Core.List.{List}
 use lib.Dec.{ltb}
 use lib.ListN.{length}
-use borrow.Author.Tests.{ltb-false, eq-eqb}
+use borrow.Author.Tests.{ltb-false, eq-eqb, ne_eqb}
 use Rattle.std.specs.Prelude.{Err, Ok, Result}
 use Rattle.octets.specs.Pick.{pick, pick_true, pick_false, pick_cases}
 use Rattle.octets.proofs.Bools.{no_both}
 use Rattle.mctp.specs.declared.Header.{Header}
 use Rattle.mctp.specs.declared.Error.{Error}
+use Rattle.mctp.specs.declared.Error.TheVariants.{InvalidInput, NoSpace}
 use Rattle.stamp.specs.declared.EventStamp.{EventStamp}
 use Rattle.slot.specs.declared.Reassembler.{Reassembler}
 use Rattle.reassemble.specs.declared.Intake.{Intake}
@@ -42,8 +43,16 @@ by_steps P e brief wrong over q begins goes_on t u =
     (λ m. pick_cases (OfTaken P) (λ n. pick_cases (OfTaken P) (λ _. tt) (goes_on m n)) (λ _. tt)))
 
 module _ (B : ℕ) (now : EventStamp) (issue : ℕ) (s : Reassembler) (h : Header) (p : List ℕ) where
-  -- rule 49: a packet in turn, with room for it
+  -- rules 47, 48 and 49, each by its test
   module _ (start : ℕ) where
+    pub append_astray : (h.seq ≡ s.next_seq → ⊥) → append B now issue s h p start ≡ Err InvalidInput
+    unfolding append
+    append_astray n = pick_false _ _ _ (ne_eqb h.seq s.next_seq n)
+
+    pub append_full : h.seq ≡ s.next_seq → ltb B (s.len + (length p - start)) ≡ true → append B now issue s h p start ≡ Err NoSpace
+    unfolding append
+    append_full q f = pick_true _ _ _ (eq-eqb h.seq s.next_seq q) ∙ pick_true _ _ _ f
+
     pub append_is : h.seq ≡ s.next_seq → ltb B (s.len + (length p - start)) ≡ false
         → append B now issue s h p start ≡ Ok (record { slot = appended h.eom now issue (length p - start) s; at = s.len; from = start; whole = h.eom })
     unfolding append
