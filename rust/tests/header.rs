@@ -160,39 +160,40 @@ fn constants(header: &str) -> BTreeMap<String, u64> {
 
 // ---- what the structs and constants must be
 
-/// The field that an entry of a row in crate `rows` is: `wide(f.src.0)` is `src`.
+/// The field that an entry of a row in crate `rows` is: `u64::from(self.src.0)` is `src`.
 fn field_of(entry: &str) -> String {
-    let known = ["wide", "flag_word", "0", "as", "u64", "f", "m", "h", "key", ""];
+    if entry.contains("cookie_no") {
+        return "has_cookie".into();
+    }
+    let known = ["u64", "from", "self", "0", "as", "h", ""];
     let word = |c: char| !(c.is_alphanumeric() || c == '_');
     match entry.split(word).rfind(|w| !known.contains(w)).expect("a field") {
         "is_owner" => "owner".into(),
-        "present" => "has_cookie".into(),
-        "value" => "cookie".into(),
         other => other.into(),
     }
 }
 
-/// The row that a function of crate `rows` ends with.
-fn written_row(text: &str, function: &str) -> Vec<String> {
-    let body = between(text, &format!("pub fn {function}("), "{\n", "\n}\n");
-    let list = &body[body.rfind('[').expect("a row") + 1..body.rfind(']').expect("its end")];
+/// The row that a type of crate `rows` is told in: the first list in its `words`.
+fn written_row(text: &str, row: &str) -> Vec<String> {
+    let body = between(text, &format!("impl {row} {{"), "] {\n", "\n}\n");
+    let (_, list) = body.split_once('[').expect("a row");
+    let (list, _) = list.split_once(']').expect("its end");
     list.split(',').filter(|e| !e.trim().is_empty()).map(field_of).collect()
 }
 
-/// The row that `send_of` reads: `let mtu = send_mtu_from(is_yes(w[6]), w[7]);` is `has_mtu`, `mtu`.
+/// The row that `send_of` reads: `mtu: send_mtu_from(is_yes(w[6]), w[7]),` is `has_mtu`, `mtu`.
 fn read_row(text: &str) -> Vec<String> {
     let body = between(text, "pub fn send_of(", "{\n", "\n}\n");
     let mut row = Vec::new();
-    for line in body.lines().filter_map(|line| line.trim().strip_prefix("let ")) {
-        let (name, from) = line.split_once(" = ").expect("let name = ..");
+    for (name, from) in body.lines().filter_map(|line| line.trim().split_once(": ")) {
         let places: Vec<usize> =
             from.split("w[").skip(1).map(|p| p.split_once(']').expect("w[..]").0.parse().expect("a place")).collect();
-        assert_eq!(places, Vec::from_iter(row.len()..row.len() + places.len()), "{line}");
+        assert_eq!(places, Vec::from_iter(row.len()..row.len() + places.len()), "{name}: {from}");
         match (places.len(), name) {
             (1, _) => {}
             (2, "tag") => row.push("tag_kind".into()),
             (2, _) => row.push(format!("has_{name}")),
-            _ => panic!("{line}"),
+            _ => panic!("{name}: {from}"),
         }
         row.push(name.into());
     }
@@ -209,20 +210,19 @@ fn defined_length(name: &str) -> usize {
         "fragmenter" => ("crates/fragment/specs/Answers.antt", "\nwords_of f ="),
         "message" => ("crates/handles/specs/Handles.antt", "\nmessage_words m ="),
         "handle" => ("crates/slot/specs/Handle.antt", "\nhandle_words h ="),
-        _ => ("crates/updating/specs/Update.antt", "\nupdated_as (Next millis expired) ="),
+        _ => ("crates/updating/specs/Update.antt", "\nnext_words next ="),
     };
     between(&read(path), definition, "=", "[]").matches('∷').count()
 }
 
 fn rows() -> Vec<(&'static str, Vec<String>)> {
-    let (words, answers) = (words(), read("crates/rows/src/answers.rt"));
-    let next = between(&answers, "*next = [", "[", "]").split(',').map(field_of).collect();
+    let told = read("crates/rows/src/answers.rt");
     let rows = vec![
-        ("send", read_row(&words)),
-        ("fragmenter", written_row(&words, "words_of")),
-        ("message", written_row(&words, "message_words")),
-        ("handle", written_row(&words, "handle_words")),
-        ("next", next),
+        ("send", read_row(&words())),
+        ("fragmenter", written_row(&told, "Row<13> for Fragmenter")),
+        ("message", written_row(&told, "Row<10> for Message")),
+        ("handle", written_row(&told, "Row<2> for Option<ReceiveHandle>")),
+        ("next", written_row(&told, "Row<2> for Next")),
     ];
     for (name, row) in &rows {
         assert_eq!(row.len(), defined_length(name), "code and definitions on a {name}");
@@ -248,13 +248,6 @@ fn number(path: &str, mark: &str) -> u64 {
     let (_, rest) = text.split_once(mark).unwrap_or_else(|| panic!("no `{mark}` in {path}"));
     let digits: String = rest.chars().take_while(|c| c.is_ascii_digit() || *c == ',').filter(|c| *c != ',').collect();
     digits.parse().unwrap_or_else(|_| panic!("no number after `{mark}` in {path}"))
-}
-
-/// The last kind of tag: `if 2 < w[2]` refuses what lies past it.
-fn highest_kind() -> u64 {
-    let words = words();
-    let (before, _) = words.split_once(" < w[2]").expect("a test of the kind");
-    before.rsplit(' ').next().and_then(|n| n.parse().ok()).expect("a number")
 }
 
 /// `NoSpace` as `HYPHALOOM_NO_SPACE`.
@@ -296,9 +289,9 @@ fn wanted_constants() -> BTreeMap<String, u64> {
             ("EID_NULL", number(mctp, "NULL: Eid = Eid(")),
             ("EID_ANY", number(mctp, "ANY: Eid = Eid(")),
             ("OK", 0),
-            ("TAG_FRESH", number("crates/rows/src/lib.rt", "if kind == ")),
-            ("TAG_OWNED", number("crates/rows/src/lib.rt", "SendTag::Fresh;\n    }\n    if kind == ")),
-            ("TAG_UNOWNED", highest_kind()),
+            ("TAG_FRESH", number("crates/rows/src/lib.rt", "match kind {\n        ")),
+            ("TAG_OWNED", number("crates/rows/src/lib.rt", " => None,\n        ")),
+            ("TAG_UNOWNED", number("crates/rows/src/lib.rt", "w[2] <= ")),
         ]
         .map(|(name, number)| (format!("HYPHALOOM_{name}"), number)),
     );

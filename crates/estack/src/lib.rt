@@ -19,7 +19,7 @@ pub use sending::{Send, start_send};
 pub use slot::ReceiveHandle;
 use stamp::EventStamp;
 use state::{Head, Sizes};
-pub use updating::update;
+pub use updating::{Next, update};
 
 // Makes a new stack in the front of a buffer; what lies past it stays.
 #[tactic(auto, using(state::proofs::Fresh::fresh_becomes), unfolding(crate::specs::Basics::new_says, octets::specs::Pick::pick))]

@@ -196,7 +196,7 @@ pub fn fresh_tags(
 // ---- receiving
 
 // What is shown of a message that is handed out.
-#[derive(Clone, Copy)]
+#[derive(Clone, Copy, Debug, PartialEq, Eq)]
 pub enum Show {
     Taken,
     Slot,

@@ -141,7 +141,7 @@ fn fixed_flow(
     Err(Error::BadArgument)
 }
 
-// Sets or checks the flow of a send under an owned tag.
+// Sets or checks the flow of a send under an owned tag: a given one, or where none is given a fresh one.
 pub fn set_flow(
     state: &mut [u8],
     sizes: Sizes,

@@ -13,7 +13,7 @@ use slot::{Reassembler, ReceiveHandle};
 use state::Sizes;
 
 // A message: its body is `len` bytes of the pool from byte `at`.
-#[derive(Clone, Copy)]
+#[derive(Clone, Copy, Debug, PartialEq, Eq)]
 pub struct Message {
     pub key: Key,
     pub typ: MsgType,

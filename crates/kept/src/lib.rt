@@ -53,14 +53,14 @@ fn head_holds(state: &[u8]) -> bool
     requires { head_width ≤ length state.now }
     ensures { Tells (Holds head_codec 0 state.now) result }
 {
-    let w = &state[0..HEAD_WIDTH];
-    let h = state::read_head(w);
+    let head = &state[0..HEAD_WIDTH];
+    let h = state::read_head(head);
     if !head_ranges(h) {
         return false;
     }
     let mut anew = [0u8; HEAD_WIDTH];
     state::write_head(&mut anew, h);
-    anew.as_slice() == w
+    anew.as_slice() == head
 }
 
 fn flow_holds(state: &[u8], at: usize) -> bool
@@ -68,14 +68,14 @@ fn flow_holds(state: &[u8], at: usize) -> bool
     ensures { Tells (Holds flow_codec at state.now) result }
 {
     let end = at + FLOW_WIDTH;
-    let w = &state[at..end];
+    let place = &state[at..end];
     let f = state::flow_from(state, at);
     if 7 < f.tag.0 {
         return false;
     }
     let mut anew = [0u8; FLOW_WIDTH];
     flows::write_flow(&mut anew, f);
-    anew.as_slice() == w // bytes that hold nothing are compared as well
+    anew.as_slice() == place // bytes that hold nothing are compared as well
 }
 
 fn slot_holds(state: &[u8], at: usize, body: usize) -> bool
@@ -83,14 +83,14 @@ fn slot_holds(state: &[u8], at: usize, body: usize) -> bool
     ensures { Tells (Holds (slot_codec body) at state.now) result }
 {
     let end = at + SLOT_WIDTH;
-    let w = &state[at..end];
+    let slot = &state[at..end];
     let s = state::slot_from(state, at);
     if !slot_ranges(s, body) {
         return false;
     }
     let mut anew = [0u8; SLOT_WIDTH];
     state::write_slot(&mut anew, s);
-    anew.as_slice() == w
+    anew.as_slice() == slot
 }
 
 // ---- all blocks

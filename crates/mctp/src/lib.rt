@@ -163,6 +163,8 @@ impl fmt::Display for Error {
     }
 }
 
+impl std::error::Error for Error {}
+
 // `n` where the bit is set, else 0.
 pub fn bit_of(set: bool, n: u8) -> u8
     ensures { (result ≡ bit set n) × (result ≤ n) }
@@ -170,7 +172,7 @@ pub fn bit_of(set: bool, n: u8) -> u8
     if set { n } else { 0 }
 }
 
-// The header of a packet; it is bad when the packet has under 4 bytes or another version.
+// The header of a packet: none where the packet has under 4 bytes or another version.
 #[tactic(auto, unfolding(octets::specs::Pick::pick, crate::specs::Header::header_of))]
 pub fn read_header(packet: &[u8]) -> Option<Header>
     ensures { result ≡ header_of packet.now }

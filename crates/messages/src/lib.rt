@@ -11,7 +11,7 @@ ghost use Rattle.messages.specs.Message.{body_of, message_of, front_of};
 use handles::Message;
 use mctp::{AppCookie, Eid, MsgIC, MsgType, Tag};
 
-#[derive(Clone, Copy)]
+#[derive(Clone, Copy, Debug, PartialEq, Eq)]
 pub struct MctpMessage<'a> {
     pub source: Eid,
     pub dest: Eid,

@@ -21,7 +21,7 @@ use state::Sizes;
 
 mod middle; // middle.rt: the short way of a middle packet
 
-// Receives a packet.
+// Receives a packet: none where more of its message is to come, and else the handle of the message that it ends.
 pub fn receive(
     state: &mut [u8],
     sizes: Sizes,
@@ -177,13 +177,10 @@ fn settle(
     requires { Kept sizes state.old × (i < sizes.slots) × (sizes.body * sizes.slots ≤ length pool.old) × Planned t (length packet.now) sizes.body × SlotOk sizes.body t.slot }
     ensures { Makes sizes (settled sizes.body i (stack_of sizes state.old) key packet.now (Ok t)) result state.old state.new pool.old pool.new }
 {
-    let slot = t.slot;
-    state::put_slot(state, sizes, i, slot);
-    let whole = t.whole;
-    let said = conclude(state, sizes, key, i, whole);
+    state::put_slot(state, sizes, i, t.slot);
+    let said = conclude(state, sizes, key, i, t.whole);
     let at = sizes.body * i + t.at;
-    let from = t.from;
-    copying::copy(&mut pool[at..], &packet[from..]);
+    copying::copy(&mut pool[at..], &packet[t.from..]);
     said
 }
 
@@ -215,10 +212,7 @@ pub fn conclude(
         let issue = slot::next_issue(state::issue_at(state, sizes));
         state::put_issue(state, sizes, issue);
         close(state, sizes, key);
-        return Ok(Some(ReceiveHandle {
-            index: i,
-            issue: issue,
-        }));
+        return Ok(Some(ReceiveHandle { index: i, issue }));
     }
     Ok(None)
 }

@@ -11,20 +11,12 @@ use slot::ReceiveHandle;
 use state::{Progress, Sizes};
 
 // A middle packet of n bytes: neither first nor last, in turn, with room.
+#[tactic(auto, unfolding(octets::specs::Pick::pick, crate::specs::Receive::is_middle))]
 pub(crate) fn is_middle(h: Header, p: Progress, n: usize, body: usize) -> bool
     requires { p.len ≤ body }
     ensures { result ≡ is_middle h p n body }
 {
-    if h.som {
-        return false;
-    }
-    if h.eom {
-        return false;
-    }
-    if h.seq == p.seq {
-        return n <= body - p.len;
-    }
-    false
+    !h.som && !h.eom && h.seq == p.seq && n <= body - p.len
 }
 
 // A middle packet: of its slot the sequence and the length alone change.
@@ -42,9 +34,10 @@ pub(crate) fn append_middle(
 {
     let n = packet.len() - 4;
     state::tick(state, sizes);
-    let seq = (h.seq % 4 + 1) % 4;
-    let len = p.len + n;
-    let next = Progress { seq: seq, len: len };
+    let next = Progress {
+        seq: (h.seq % 4 + 1) % 4,
+        len: p.len + n,
+    };
     state::put_progress(state, sizes, i, next);
     let at = sizes.body * i + p.len;
     copying::copy(&mut pool[at..], &packet[4..]);

@@ -13,13 +13,15 @@ use fragment::Fragmenter;
 use mctp::{AppCookie, Eid, Error, MsgIC, MsgType, Tag, TagValue};
 use state::Sizes;
 
-#[derive(Clone, Copy)]
+#[derive(Clone, Copy, Debug, PartialEq, Eq)]
 pub struct Send {
     pub dest: Eid,
     pub typ: MsgType,
+    // none asks for a fresh tag of our own
     pub tag: Option<Tag>,
     pub expires: bool,
     pub ic: MsgIC,
+    // how long a packet of this message may be, at most: none leaves it to the stack's MTU alone
     pub mtu: Option<usize>,
     pub cookie: Option<AppCookie>,
 }

@@ -110,7 +110,7 @@ fn is_listed(cookies: &[u64], cookie: Option<AppCookie>) -> bool
     }
 }
 
-// The earliest done slot that passes the test, and of equal stamps the one with the lowest index. The test computes any `p`.
+// The earliest done slot that passes the test, and of equal stamps the one with the lowest index; `p` is what the test computes.
 fn earliest_of<F: Fn(Reassembler) -> bool>(state: &[u8], sizes: Sizes, passes: F) -> Option<usize>
     requires kept { Kept sizes state.now }
     requires callable { F.IsAlwaysCallable passes }

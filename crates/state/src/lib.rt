@@ -32,7 +32,7 @@ pub const FLOWS_AT: usize = HEAD_WIDTH;
 pub const SLOTS_AT: usize = FLOWS_AT + FLOW_WIDTH * config::FLOWS;
 
 // How many slots a stack has, and how many bytes a body may hold.
-#[derive(Clone, Copy)]
+#[derive(Clone, Copy, Debug, PartialEq, Eq)]
 pub struct Sizes {
     pub slots: usize,
     pub body: usize,
@@ -47,7 +47,7 @@ impl Sizes {
 }
 
 // What a stack has only one of.
-#[derive(Clone, Copy)]
+#[derive(Clone, Copy, Debug, PartialEq, Eq)]
 pub struct Head {
     pub own_eid: Eid,
     pub mtu: usize,
@@ -65,12 +65,9 @@ impl Head {
     {
         Head {
             own_eid: own,
-            mtu: self.mtu,
             now: stamp,
             next_timeout: planned,
-            next_tag: self.next_tag,
-            next_seq: self.next_seq,
-            issue: self.issue,
+            ..self
         }
     }
 
@@ -78,8 +75,7 @@ impl Head {
         requires { HeadOk self }
         ensures { (result ≡ with_own own self) × HeadOk result }
     {
-        let stamp = self.now;
-        self.with(own, stamp, self.next_timeout)
+        self.with(own, self.now, self.next_timeout)
     }
 
     // The head with another stamp of the last event, and another planned check.
@@ -88,8 +84,7 @@ impl Head {
         ensures stamped { result ≡ with_planned planned (with_now stamp self) }
         ensures sound { (planned ≤ stamp.clock + interval) → HeadOk result }
     {
-        let own = self.own_eid;
-        self.with(own, stamp, planned)
+        self.with(self.own_eid, stamp, planned)
     }
 }
 
@@ -128,7 +123,7 @@ pub fn write_head(b: &mut [u8], h: Head)
 // ---- a slot in 40 bytes
 
 // The part of a slot that a middle packet of a message looks at.
-#[derive(Clone, Copy)]
+#[derive(Clone, Copy, Debug, PartialEq, Eq)]
 pub struct Progress {
     pub seq: u8,
     pub len: usize,

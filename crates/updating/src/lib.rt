@@ -15,7 +15,7 @@ use stamp::{Check, EventStamp};
 use state::{Head, Sizes};
 
 // How many milliseconds may pass until the next update, and whether something expired.
-#[derive(Clone, Copy)]
+#[derive(Clone, Copy, Debug, PartialEq, Eq)]
 pub struct Next {
     pub millis: u64,
     pub expired: bool,

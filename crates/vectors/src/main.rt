@@ -53,7 +53,7 @@ fn read_half(from: &mut impl Read, w: &mut [u64], b: &mut [u8]) -> Option<Half>
 // ---- the list
 
 // How a turn of the list ends: no record is left, or the answer is the one that stands in the list, or it is another.
-#[derive(Clone, Copy)]
+#[derive(Clone, Copy, Debug, PartialEq, Eq)]
 enum Outcome {
     End,
     Same,

@@ -120,7 +120,7 @@ fn call(
 
 const POOL: u64 = 4200;
 
-#[derive(Clone, Copy)]
+#[derive(Clone, Copy, Debug, PartialEq, Eq)]
 struct Span {
     from: usize,
     end: usize,
