@@ -68,10 +68,8 @@ pub fn hyphaloom_start_send(state: &mut [u8], send: &[u64; 10], fragmenter: &mut
     ensures fragmenter { fragmenter.new ≡ row_after 13 (started_as (start_of send.now (stack_of board state.old)).said) fragmenter.old }
 {
     if is_good_send(send) {
-        put(
-            fragmenter,
-            estack::start_send(state, Sizes::BOARD, send_of(send)),
-        )
+        let started = estack::start_send(state, Sizes::BOARD, send_of(send));
+        put(fragmenter, started)
     } else {
         Error::InvalidInput.number()
     }
@@ -119,7 +117,8 @@ pub fn hyphaloom_receive(
     ensures pool { pool.new ≡ over (receive_of 1032 (stack_of board state.old) (length pool.old) packet.now).at (receive_of 1032 (stack_of board state.old) (length pool.old) packet.now).bytes pool.old }
     ensures handle { handle.new ≡ row_after 2 (received_as (receive_of 1032 (stack_of board state.old) (length pool.old) packet.now).said) handle.old }
 {
-    put(handle, estack::receive(state, Sizes::BOARD, pool, packet))
+    let received = estack::receive(state, Sizes::BOARD, pool, packet);
+    put(handle, received)
 }
 
 // The earliest message kept from that source under that tag: its handle, or issue 0 where there is none.
@@ -160,10 +159,8 @@ pub fn hyphaloom_fetch_message(
     ensures message { message.new ≡ row_after 10 (fetched_as (fetch_of 1032 (record { index = index; issue = issue }) (stack_of board state.now) (length pool.now))) message.old }
 {
     let handle = ReceiveHandle { index, issue };
-    put(
-        message,
-        estack::fetch_message(state, Sizes::BOARD, pool, handle),
-    )
+    let fetched = estack::fetch_message(state, Sizes::BOARD, pool, handle);
+    put(message, fetched)
 }
 
 pub fn hyphaloom_finished_receive(state: &mut [u8], index: usize, issue: u64) -> u8

@@ -1,6 +1,5 @@
 // The parts of the program `figures`: a fresh stack, and each call of a figure, run on the stack's own calls and told in words, after a text that says what is asked.
 // A message is cut in place (`cut`), and a body is lent by the message that borrows it from the pool (`messages::lend_body`). Definitions: specs/Figure.antt.
-// Each call is made before its text is written, so what it does to the stack's bytes does not hang on the writing.
 // Leans on `estack` for the calls, on `fragment` and `messages` for packets and bodies, on `board` for the sizes.
 
 #![tactic(auto)]
@@ -18,22 +17,49 @@ use estack::{Message, ReceiveHandle, Send};
 use fragment::{Fragmented, Fragmenter, SendOutput};
 use mctp::{Eid, Error, MsgIC, MsgType};
 use state::Sizes;
-use std::io;
 use updating::Next;
 
 // ---- writing
 
-// Writes a space and the two digits of each of the first n bytes, or of as many as there are.
-fn bytes(rt: &impl Print, b: &[u8], n: usize) -> io::Result<()> {
+fn say(text: &[u8]) {
+    io::write_all(1, text);
+}
+
+// Writes a space and the number.
+fn number(n: u64) {
+    say(b" ");
+    io::print_decimal(1, n);
+}
+
+// Writes a space and the byte's two digits.
+fn byte(x: u8) {
+    say(b" ");
+    io::print_hex(1, u64::from(x), 2);
+}
+
+// Writes the first n bytes, or as many as there are.
+fn bytes(b: &[u8], n: usize) {
     for x in b.iter().take(n) {
-        print!(rt; " {x:02x}")?;
+        byte(*x);
     }
-    Ok(())
+}
+
+fn name(err: Error) {
+    match err {
+        Error::InvalidInput => say(b" InvalidInput"),
+        Error::NoSpace => say(b" NoSpace"),
+        Error::BadArgument => say(b" BadArgument"),
+        Error::TagUnavailable => say(b" TagUnavailable"),
+        Error::Unreachable => say(b" Unreachable"),
+        Error::PoolShort => say(b" PoolShort"),
+    }
 }
 
 // Writes a refusal's number and its name.
-fn refusal(rt: &impl Print, err: Error) -> io::Result<()> {
-    print!(rt; " refused {} {err}", err.number())
+fn refusal(err: Error) {
+    say(b" refused");
+    number(u64::from(err.number()));
+    name(err);
 }
 
 // ---- the stack
@@ -75,122 +101,112 @@ fn cut(mut f: Fragmenter, payload: &[u8], out: &mut [u8]) -> Fragmented
 }
 
 // Shows a packet's bytes, or why there is none.
-fn packet(rt: &impl Print, output: SendOutput, out: &[u8]) -> io::Result<()> {
+fn packet(output: SendOutput, out: &[u8]) {
     match output {
-        SendOutput::Packet(n) => bytes(rt, out, n),
-        SendOutput::Complete { .. } => print!(rt; " complete"),
-        SendOutput::Error { err, .. } => refusal(rt, err),
+        SendOutput::Packet(n) => bytes(out, n),
+        SendOutput::Complete { .. } => say(b" complete"),
+        SendOutput::Error { err, .. } => refusal(err),
     }
 }
 
 // Shows the packets of a message that takes at most two.
-fn cut_in_two(rt: &impl Print, f: Fragmenter, payload: &[u8]) -> io::Result<()> {
+fn cut_in_two(f: Fragmenter, payload: &[u8]) {
     let mut out = [0u8; 255];
     let first = cut(f, payload, &mut out);
-    packet(rt, first.output, &out)?;
+    packet(first.output, &out);
     if first.next.done {
-        return Ok(());
+        return;
     }
-    print!(rt; ",")?;
+    say(b",");
     let second = cut(first.next, payload, &mut out);
-    packet(rt, second.output, &out)
+    packet(second.output, &out);
 }
 
 // Sends to that peer, and shows the packets.
-pub fn packets(
-    rt: &impl Print,
-    state: &mut [u8],
-    text: &str,
-    peer: u8,
-    mtu: Option<usize>,
-    payload: &[u8],
-) -> io::Result<()>
+pub fn packets(state: &mut [u8], text: &[u8], peer: u8, mtu: Option<usize>, payload: &[u8])
     requires { Kept board state.old }
     ensures { Becomes board state.old state.new (start_send_of (asked peer mtu) (stack_of board state.old)).stack }
 {
+    say(text);
     let started = start(state, peer, mtu);
-    print!(rt; "{text}")?;
     match started {
-        Ok(f) => cut_in_two(rt, f, payload),
-        Err(err) => refusal(rt, err),
+        Ok(f) => cut_in_two(f, payload),
+        Err(err) => refusal(err),
     }
 }
 
 // Shows that a packet is taken, or why there is none.
-fn taken(rt: &impl Print, output: SendOutput) -> io::Result<()> {
+fn taken(output: SendOutput) {
     match output {
-        SendOutput::Packet(_) => print!(rt; " taken"),
-        SendOutput::Complete { .. } => print!(rt; " complete"),
-        SendOutput::Error { err, .. } => refusal(rt, err),
+        SendOutput::Packet(_) => say(b" taken"),
+        SendOutput::Complete { .. } => say(b" complete"),
+        SendOutput::Error { err, .. } => refusal(err),
     }
 }
 
 // Takes the first step with a buffer of that room, at most 255.
-fn cut_first(rt: &impl Print, f: Fragmenter, payload: &[u8], room: usize) -> io::Result<()> {
+fn cut_first(f: Fragmenter, payload: &[u8], room: usize) {
     let mut out = [0u8; 255];
     if out.len() < room {
-        return Ok(());
+        return;
     }
     let first = cut(f, payload, &mut out[..room]);
-    taken(rt, first.output)
+    taken(first.output);
 }
 
 // Sends to that peer, and shows whether the first packet is taken in a buffer of that room.
 pub fn first_packet(
-    rt: &impl Print,
     state: &mut [u8],
-    text: &str,
+    text: &[u8],
     peer: u8,
     mtu: Option<usize>,
     payload: &[u8],
     room: usize,
-) -> io::Result<()>
+)
     requires { Kept board state.old }
     ensures { Becomes board state.old state.new (start_send_of (asked peer mtu) (stack_of board state.old)).stack }
 {
+    say(text);
     let started = start(state, peer, mtu);
-    print!(rt; "{text}")?;
     match started {
-        Ok(f) => cut_first(rt, f, payload, room),
-        Err(err) => refusal(rt, err),
+        Ok(f) => cut_first(f, payload, room),
+        Err(err) => refusal(err),
     }
 }
 
-// Shows a message's tag, or why it does not start.
-fn show_tag(rt: &impl Print, started: Result<Fragmenter, Error>) -> io::Result<()> {
-    match started {
-        Ok(f) => print!(rt; " {}", f.tag().tag().0),
-        Err(err) => refusal(rt, err),
-    }
+fn tag_of(f: Fragmenter) {
+    number(u64::from(f.tag().tag().0));
 }
 
-// Starts a send to that peer, and shows its tag.
-pub fn fresh_tag(rt: &impl Print, state: &mut [u8], text: &str, peer: u8) -> io::Result<()>
+fn show_tag(state: &mut [u8], peer: u8)
     requires { Kept board state.old }
     ensures { Becomes board state.old state.new (start_send_of (asked peer None) (stack_of board state.old)).stack }
 {
     let started = start(state, peer, None);
-    print!(rt; "{text}")?;
-    show_tag(rt, started)
+    match started {
+        Ok(f) => tag_of(f),
+        Err(err) => refusal(err),
+    }
+}
+
+// Starts a send to that peer, and shows its tag.
+pub fn fresh_tag(state: &mut [u8], text: &[u8], peer: u8)
+    requires { Kept board state.old }
+    ensures { Becomes board state.old state.new (start_send_of (asked peer None) (stack_of board state.old)).stack }
+{
+    say(text);
+    show_tag(state, peer);
 }
 
 // Starts so many sends to that peer, and shows their tags.
-pub fn fresh_tags(
-    rt: &impl Print,
-    state: &mut [u8],
-    text: &str,
-    peer: u8,
-    count: u8,
-) -> io::Result<()>
+pub fn fresh_tags(state: &mut [u8], text: &[u8], peer: u8, count: u8)
     requires { Kept board state.old }
     ensures { Kept board state.new }
 {
-    print!(rt; "{text}")?;
+    say(text);
     for _ in 0..count {
-        let started = start(state, peer, None);
-        show_tag(rt, started)?;
+        show_tag(state, peer);
     }
-    Ok(())
 }
 
 // ---- receiving
@@ -205,92 +221,86 @@ pub enum Show {
 }
 
 // Shows a whole message; its body is what the message lends of the pool.
-fn whole(rt: &impl Print, pool: &[u8], m: Message) -> io::Result<()> {
-    print!(rt; " message from {}, type {}, body", m.key.source.0, m.typ.0)?;
+fn whole(pool: &[u8], m: Message) {
+    say(b" message from");
+    number(u64::from(m.key.source.0));
+    say(b", type");
+    number(u64::from(m.typ.0));
+    say(b", body");
     let body = messages::lend_body(pool, m);
-    bytes(rt, body, body.len())
+    bytes(body, body.len());
 }
 
-fn tell(
-    rt: &impl Print,
-    pool: &[u8],
-    m: Message,
-    handle: ReceiveHandle,
-    show: Show,
-) -> io::Result<()> {
+fn size(pool: &[u8], m: Message) {
+    let body = messages::lend_body(pool, m);
+    say(b" message of");
+    number(body.len() as u64);
+    say(b" bytes");
+}
+
+fn tell(pool: &[u8], m: Message, handle: ReceiveHandle, show: Show) {
     match show {
-        Show::Taken => print!(rt; " taken"),
-        Show::Slot => print!(rt; " {}", handle.index),
-        Show::Size => print!(rt; " message of {} bytes", messages::lend_body(pool, m).len()),
-        Show::Whole => whole(rt, pool, m),
+        Show::Taken => say(b" taken"),
+        Show::Slot => number(handle.index as u64),
+        Show::Size => size(pool, m),
+        Show::Whole => whole(pool, m),
     }
 }
 
 // Fetches the message under a handle, and shows it.
-fn fetch(
-    rt: &impl Print,
-    state: &[u8],
-    pool: &[u8],
-    handle: ReceiveHandle,
-    show: Show,
-) -> io::Result<()>
+fn fetch(state: &[u8], pool: &[u8], handle: ReceiveHandle, show: Show)
     requires { Kept board state.now }
 {
     let fetched = estack::fetch_message(state, Sizes::BOARD, pool, handle);
     match fetched {
-        Ok(m) => tell(rt, pool, m, handle, show),
-        Err(err) => refusal(rt, err),
+        Ok(m) => tell(pool, m, handle, show),
+        Err(err) => refusal(err),
     }
 }
 
 // Fetches and finishes a message that is handed out.
-fn settle(
-    rt: &impl Print,
-    state: &mut [u8],
-    pool: &[u8],
-    handle: ReceiveHandle,
-    show: Show,
-) -> io::Result<()>
+fn settle(state: &mut [u8], pool: &[u8], handle: ReceiveHandle, show: Show)
     requires { Kept board state.old }
     ensures { Kept board state.new }
 {
-    let shown = fetch(rt, state, pool, handle, show);
+    fetch(state, pool, handle, show);
     let _ = estack::finished_receive(state, Sizes::BOARD, handle);
-    shown
 }
 
 // Receives a packet, and shows what it gives: more to come, a message, which is then finished, or a refusal.
-pub fn receive(
-    rt: &impl Print,
-    state: &mut [u8],
-    pool: &mut [u8],
-    text: &str,
-    packet: &[u8],
-    show: Show,
-) -> io::Result<()>
+pub fn receive(state: &mut [u8], pool: &mut [u8], text: &[u8], packet: &[u8], show: Show)
     requires { Kept board state.old }
     ensures { Kept board state.new }
 {
+    say(text);
     let received = estack::receive(state, Sizes::BOARD, pool, packet);
-    print!(rt; "{text}")?;
     match received {
-        Ok(None) => print!(rt; " more"),
-        Ok(Some(handle)) => settle(rt, state, pool, handle, show),
-        Err(err) => refusal(rt, err),
+        Ok(None) => say(b" more"),
+        Ok(Some(handle)) => settle(state, pool, handle, show),
+        Err(err) => refusal(err),
     }
 }
 
 // ---- the clock
 
+fn planned(millis: u64, expired: bool) {
+    number(millis);
+    if expired {
+        say(b" true");
+        return;
+    }
+    say(b" false");
+}
+
 // Takes the clock, and shows how many milliseconds may pass until the next update, and whether something expired.
-pub fn update(rt: &impl Print, state: &mut [u8], text: &str, clock: u64) -> io::Result<()>
+pub fn update(state: &mut [u8], text: &[u8], clock: u64)
     requires { Kept board state.old }
     ensures { Becomes board state.old state.new (update_of clock (stack_of board state.old)).stack }
 {
+    say(text);
     let updated = estack::update(state, Sizes::BOARD, clock);
-    print!(rt; "{text}")?;
     match updated {
-        Ok(Next { millis, expired }) => print!(rt; " {millis} {expired}"),
-        Err(err) => refusal(rt, err),
+        Ok(Next { millis, expired }) => planned(millis, expired),
+        Err(err) => refusal(err),
     }
 }

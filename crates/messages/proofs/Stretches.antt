@@ -18,8 +18,9 @@ lent_part at n b {m} {k} p q =
     let e : k ≡ min n (length (drop at b)) = q ∙ ap (λ (x : List ℕ). min n (length x)) rest in
     rw (rest, e) (take_min n (drop at b))
 
--- a body is copied over the front of p as far as it fits: what p then holds
-pub front_copied : (p : List ℕ) {body b last : List ℕ} → body ≡ b → last ≡ lay 0 body p → last ≡ over 0 (take (length p) b) p
-front_copied p {b = b} same w =
+-- a body is copied over the front of p as far as it fits: how much of it that is, and what p then holds
+pub front_copied : (p : List ℕ) {body b last : List ℕ} {n : ℕ} → body ≡ b → n ≡ min (length p) (length body) → last ≡ lay 0 body p
+    → (n ≡ length (take (length p) b)) × (last ≡ over 0 (take (length p) b) p)
+front_copied p {b = b} same k w =
     let l = length-take (length p) b in
-    w ∙ rw same (sym (lay_clip (length p) b p (omega arith)) ∙ lay_fits 0 (take (length p) b) p (omega arith))
+    (rw (k, same, l), w ∙ rw same (sym (lay_clip (length p) b p (omega arith)) ∙ lay_fits 0 (take (length p) b) p (omega arith)))

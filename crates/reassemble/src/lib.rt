@@ -5,7 +5,7 @@
 #![tactic(auto)]
 
 ghost use Rattle.std.specs.Prelude.{◌≡◌, ◌+◌, ◌≤◌, ◌<◌, ◌^◌, ltb, length, Ok};
-ghost use Rattle.reassemble.specs.Enter.{is_local, local_packet, opening, opened, begun, appended, append, enter, Planned};
+ghost use Rattle.reassemble.specs.Enter.{is_local, local_packet, opening, opened, gate_reply, begun, appended, append, enter, Planned};
 ghost use Rattle.reassemble.specs.declared.Intake.{Intake};
 
 use mctp::{AppCookie, Eid, Error, Header, MsgIC, MsgType};
@@ -53,6 +53,18 @@ pub fn open(h: Header, cookie: Option<AppCookie>) -> Reassembler
         key: h.key,
         cookie,
         ..slot::blank()
+    }
+}
+
+// A reply opens a slot only where its flow stands, and takes the flow's cookie.
+#[tactic(auto, unfolding(octets::specs::Pick::pick, crate::specs::Enter::gate_reply))]
+pub fn gate_reply(h: Header, stands: bool, cookie: Option<AppCookie>) -> Result<Reassembler, Error>
+    ensures { result ≡ gate_reply h stands cookie }
+{
+    if stands {
+        Ok(open(h, cookie))
+    } else {
+        Err(Error::Unreachable)
     }
 }
 

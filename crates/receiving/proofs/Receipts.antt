@@ -62,12 +62,12 @@ module _ (z : Sizes) (r : Result (Option ReceiveHandle) Error) where
 -- a reply whose flow stands passes with the flow's cookie
 module _ (h : Header) (flows : List Flow) where
   pub reply_stands : (cookie : Option AppCookie) → flow_place h.key.source h.key.tag flows < length flows → cookie ≡ flow_cookie h.key.source h.key.tag flows
-      → Ok (opened h cookie) ≡ gate_reply h (standing h.key.source h.key.tag flows) (flow_cookie h.key.source h.key.tag flows)
+      → gate_reply h true cookie ≡ gate_reply h (standing h.key.source h.key.tag flows) (flow_cookie h.key.source h.key.tag flows)
   unfolding gate_reply pick
   reply_stands cookie l e = rw (lt-ltb (flow_place h.key.source h.key.tag flows) (length flows) l, e)
 
   pub reply_lost : length flows ≤ flow_place h.key.source h.key.tag flows
-      → Err Unreachable ≡ gate_reply h (standing h.key.source h.key.tag flows) (flow_cookie h.key.source h.key.tag flows)
+      → gate_reply h false None ≡ gate_reply h (standing h.key.source h.key.tag flows) (flow_cookie h.key.source h.key.tag flows)
   unfolding gate_reply pick
   reply_lost l = rw (le-ltb (flow_place h.key.source h.key.tag flows) (length flows) l)
 

@@ -134,10 +134,10 @@ fn gate_by_flow(state: &[u8], sizes: Sizes, h: Header) -> Result<Reassembler, Er
     ensures { result ≡ gate_reply h (standing h.key.source h.key.tag (stack_of sizes state.now).flows) (flow_cookie h.key.source h.key.tag (stack_of sizes state.now).flows) }
 {
     let Some(i) = flow_walks::find_flow(state, sizes, h.key.source, h.key.tag) else {
-        return Err(Error::Unreachable);
+        return reassemble::gate_reply(h, false, None);
     };
     let f = state::flow_at(state, sizes, i);
-    Ok(reassemble::open(h, f.cookie))
+    reassemble::gate_reply(h, true, f.cookie)
 }
 
 // Rules 44 to 51: one event is counted, and the packet enters slot i, which is s.

@@ -89,7 +89,7 @@ impl Reassembler {
     pub fn is_empty(self) -> bool
         ensures { result ≡ is_empty self }
     {
-        self.state == State::Empty
+        matches!(self.state, State::Empty)
     }
 
     // Whether it is done with no handle out.
@@ -155,7 +155,11 @@ impl Reassembler {
 pub fn is_from(s: Reassembler, peer: Eid, owner: bool, tag: TagValue) -> bool
     ensures { result ≡ kept_under peer owner tag s }
 {
-    s.key.source == peer && s.key.owner == owner && s.key.tag == tag
+    // one test after the other: a cancel's walk leaves most slots at the first
+    if s.key.source != peer {
+        return false;
+    }
+    s.key.owner == owner && s.key.tag == tag
 }
 
 // Whether the slot is not empty and holds a reply of that peer and tag.
@@ -163,5 +167,8 @@ pub fn is_from(s: Reassembler, peer: Eid, owner: bool, tag: TagValue) -> bool
 pub fn is_reply(s: Reassembler, peer: Eid, tag: TagValue) -> bool
     ensures { result ≡ is_reply peer tag s }
 {
-    !s.is_empty() && is_from(s, peer, false, tag)
+    if s.is_empty() {
+        return false;
+    }
+    is_from(s, peer, false, tag)
 }

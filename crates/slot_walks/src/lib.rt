@@ -119,7 +119,8 @@ fn earliest_of<F: Fn(Reassembler) -> bool>(state: &[u8], sizes: Sizes, passes: F
     let mut best = None;
     for i in (0..sizes.slots).rev() {
         let s = state::slot_at(state, sizes, i);
-        if s.is_done() && passes(s) {
+        let done = s.is_done();
+        if done && passes(s) {
             best = Some(better(state, sizes, i, best));
         }
     }

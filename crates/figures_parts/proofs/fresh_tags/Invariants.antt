@@ -4,4 +4,4 @@ use Rattle.board.specs.Board.{board}
 use Rattle.figures_parts.proofs.fresh_tags.Given as goal
 
 abbrev pub invariant-loop : goal.invariant-loop
-invariant-loop g l = Kept board l.state
+invariant-loop l = Kept board l.state

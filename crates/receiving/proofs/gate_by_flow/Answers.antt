@@ -15,7 +15,7 @@ use Rattle.receiving.proofs.gate_by_flow.Goals as goal
 pub returns-in_default : goal.returns-in_default
 returns-in_default c =
     let l = (stack_of c.args.sizes c.args.state.now).flows in
-    reply_lost c.args.h l (none_placed (length l) (flow_place c.args.h.key.source c.args.h.key.tag l) (sym c.find_flow.ensures ∙ c.in_default.is))
+    c.gate_reply.ensures ∙ reply_lost c.args.h l (none_placed (length l) (flow_place c.args.h.key.source c.args.h.key.tag l) (sym c.find_flow.ensures ∙ c.in_default.is))
 
 pub returns : goal.returns
 returns c =
@@ -24,4 +24,4 @@ returns c =
     let g = some_placed (length st.flows) j c.in-Some.i (sym c.in-Some.ensures) in
     let l : j < length st.flows = omega (arith, g.0, g.1) in
     let f = ap (λ (x : Flow). x.cookie) (c.flow_at-f.ensures.0 ∙ ap (λ (i : ℕ). flow_at i st) g.0) in
-    ap (λ (s : Reassembler). Ok s) c.«open».ensures ∙ reply_stands c.args.h st.flows _ l f
+    c.gate_reply-2.ensures ∙ reply_stands c.args.h st.flows _ l f

@@ -9,7 +9,7 @@ use Rattle.state.specs.Stack.{stack_of}
 use Rattle.state.proofs.StackLaws.{slots_length}
 use Rattle.slot_walks.proofs.SlotSearch.{seen_start, seen_takes, seen_fails, seen_open, seen_done}
 use Rattle.slot_walks.proofs.earliest_of.Goals as goal
-use Rattle.slot_walks.proofs.earliest_of.Goals.{else-is_done-via-then-is_done+else-passes, else-is_done-via-else-is_done}
+use Rattle.slot_walks.proofs.earliest_of.Goals.{else-done-via-then-done+else-passes, else-done-via-else-done}
 
 pub loop-i-init : goal.loop-i-init
 loop-i-init g c = record { slot = tt; seen = λ p q. seen_start c.args.sizes c.args.state.now p }
@@ -22,20 +22,20 @@ loop-i-preserved-then-passes g c = record {
   slot = c.better.ensures.slot;
   seen = λ p q.
       seen_takes c.args.sizes c.args.state.now p c.loop-i.i _ (c.loop-i.invariant.seen p q) c.loop-i-test.true _ c.slot_at-s.ensures.0 _
-      (sym c.is_done.ensures ∙ c.if-is_done.true) (sym (q _ _ c.passes.ensures) ∙ c.if-passes.true) c.better.ensures.better;
+      (sym c.is_done-done.ensures ∙ c.if-done.true) (sym (q _ _ c.passes.ensures) ∙ c.if-passes.true) c.better.ensures.better;
 }
 
 pub loop-i-preserved : goal.loop-i-preserved
 loop-i-preserved g c = record {
   slot = c.loop-i.invariant.slot;
   seen = λ p q.
-      elim c.else-is_done.branch [
-        | else-is_done-via-then-is_done+else-passes w ↦
+      elim c.else-done.branch [
+        | else-done-via-then-done+else-passes w ↦
             seen_fails c.args.sizes c.args.state.now p c.loop-i.i _ (c.loop-i.invariant.seen p q) c.loop-i-test.true _ c.slot_at-s.ensures.0
-            (sym c.is_done.ensures ∙ w.if-is_done.true) (sym (q _ _ w.passes.ensures) ∙ w.if-passes.false)
-        | else-is_done-via-else-is_done w ↦
+            (sym c.is_done-done.ensures ∙ w.if-done.true) (sym (q _ _ w.passes.ensures) ∙ w.if-passes.false)
+        | else-done-via-else-done w ↦
             seen_open c.args.sizes c.args.state.now p c.loop-i.i _ (c.loop-i.invariant.seen p q) c.loop-i-test.true _ c.slot_at-s.ensures.0
-            (sym c.is_done.ensures ∙ w.if-is_done.false)
+            (sym c.is_done-done.ensures ∙ w.if-done.false)
       ];
 }
 

@@ -4,4 +4,4 @@ use Rattle.board.specs.Board.{board}
 use Rattle.vectors.proofs.replay.Given as goal
 
 abbrev pub invariant-loop-calls : goal.invariant-loop-calls
-invariant-loop-calls g l = Kept board l.state
+invariant-loop-calls l = Kept board l.state
